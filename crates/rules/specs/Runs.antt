@@ -1,7 +1,7 @@
 -- Runs: what a call works on, what it leaves and answers, and the flash steps it takes.
 use Prim.Native.Nat.{ℕ, _+_}
 use mathlib.Core.List.{List, [], _∷_, _++_}
-use Rattle.rules.specs.declared.{Geo.Geo, Answer.Answer}
+use Rattle.rules.specs.declared.{Geo.Geo, Answer.Answer, Answer.the-variants.Corrupted}
 use Rattle.rules.specs.Bytes.{pick, program, erase, FlashStep, programs, erases}
 use Rattle.rules.specs.Cache.{Cache, note, clear}
 use Rattle.rules.specs.Answers.{isNo}
@@ -66,3 +66,7 @@ noting k a s = record { img = s .img; cache = note k a (s .cache); erased = s .e
 
 abbrev pub cleared : St → St
 cleared s = record { img = s .img; cache = clear (s .cache); erased = s .erased }
+
+-- no. 8 leaves the "cache empty"
+abbrev pub clearCorrupted : Out → Out
+clearCorrupted o = onCorrupted o (λ s. out Corrupted (cleared s))

@@ -7,7 +7,7 @@ use Rattle.rules.specs.declared.{Geo.Geo, PageState.the-variants.Open, P
 use Rattle.rules.specs.Bytes.{pick}
 use Rattle.rules.specs.Items.{Entry, size, pad, encode}
 use Rattle.rules.specs.Pages.{same, state, itemsOf, scanOf, blankAt, hasFreeSpot, firstPage, isPage, next, startAt, dataAt, endAt, zeroWord, allPages, anyCorrupted}
-use Rattle.rules.specs.Runs.{St, Out, out, onDone, onFull, onCorrupted, programming, erasing, noting, cleared}
+use Rattle.rules.specs.Runs.{St, Out, out, onDone, onFull, onCorrupted, programming, erasing, noting, cleared, clearCorrupted}
 use Rattle.rules.specs.Fetch.{Found, corrupt, missing, found, fetchIn, answerOf, runFetch, servedBy}
 
 module _ (G : Geo) where
@@ -94,10 +94,6 @@ module _ (G : Geo) where
   -- "all page states are read (ours). A corrupted page answers Corrupted."
   abbrev pub looked : (St → Out) → St → Out
   looked f s = let r = f s in pick (anyCorrupted G (s .img)) (out Corrupted s) r
-
-  -- no. 8 leaves the "cache empty"
-  abbrev pub clearCorrupted : Out → Out
-  clearCorrupted o = onCorrupted o (λ s. out Corrupted (cleared s))
 
   -- "Fetch, store, removal and walk start each repair once on Corrupted and run again"
   unfoldable pub autoRepair : (St → Out) → St → Out

@@ -1,0 +1,22 @@
+-- 0 lists and bytes
+pub mod Lists
+pub mod Splice
+pub mod ByteLaws
+-- 1 geometry
+pub mod Geometry
+-- 2 items and scans
+pub mod Reading
+pub mod Encoding
+pub mod Scans
+pub mod Entries
+pub mod Check
+-- 3 pages
+pub mod Touch
+pub mod Tails
+pub mod Piece
+-- 4 the ring
+pub mod Rings
+pub mod Moves
+-- 5 runs and their flash steps
+pub mod RunLaws
+pub mod Plays

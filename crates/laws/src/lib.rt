@@ -1,0 +1,1 @@
+// Lemmas about the definitions of `rules`; no code.
