@@ -13,7 +13,8 @@ use Rattle.rules.specs.declared.Kind.the-variants.{Present}
 use Rattle.rules.specs.Items.{Item, item, read, readBy, size, lenOf, itemOf, dataOf, kindOf, checkOf, encodeData, pad}
 use Rattle.laws.specs.Lists.{both-false-r}
 use Rattle.laws.specs.ByteLaws.{zeros-le}
-use Rattle.laws.specs.Reading.{le-roundUp, le-size}
+use Rattle.laws.specs.Words.{le-roundUp}
+use Rattle.laws.specs.Reading.{le-size}
 
 pub ofLe-toLe2 : (x : ℕ) → x < 65536 → ofLe (toLe 2 x) ≡ x
 ofLe-toLe2 x h = omega arith

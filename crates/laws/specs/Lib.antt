@@ -2,6 +2,8 @@
 pub mod Lists
 pub mod Splice
 pub mod ByteLaws
+pub mod Programs
+pub mod Words
 -- 1 geometry
 pub mod Geometry
 -- 2 items and scans

@@ -1,18 +1,19 @@
 -- Reading: what a reading says of the bytes, and that it stays where the bytes that it reads stay.
 use mathlib.Core.Path.{_≡_, refl, sym, ap, _∙_}
-use Prim.Native.Nat.{ℕ, _+_, _-_, _≤_, _<_}
+use Prim.Native.Nat.{ℕ, _+_, _≤_, _<_}
 use mathlib.Core.Bool.{Bool, true, false}
 use mathlib.Core.List.{List, _++_}
 use lib.ListN.{length, take, drop, replicate, length-append, length-replicate, length-drop}
 use lib.Seq.{take-append-le, drop-append-le}
 use lib.Dec.{leb, ltb, eqb}
-use native.Mathlib.Nat.{div-add-mod', mod-lt}
 use native.Mathlib.Omega.{arith}
 use borrow.Author.Tests.{leb-true, le-leb, lt-ltb, le-ltb, ltb-false}
-use Rattle.rules.specs.Bytes.{allFF, ofLe, roundUp}
-use Rattle.rules.specs.Items.{Item, stop, skip, item, readBy, read, size, lenOf, itemOf}
+use Rattle.rules.specs.declared.{Kind.the-variants.Present, Kind.the-variants.Removed, Kind.the-variants.Damaged}
+use Rattle.rules.specs.Bytes.{pick, both, allFF, ofLe}
+use Rattle.rules.specs.Items.{Item, isPresent, kindOf, checkOf, stop, skip, item, readBy, read, size, lenOf, itemOf}
 use Rattle.laws.specs.Lists.{both-false, both-true-r}
 use Rattle.laws.specs.Splice.{take-append}
+use Rattle.laws.specs.Words.{le-roundUp}
 use Rattle.laws.specs.ByteLaws.{allFF-append, allFF-take}
 
 -- ---- what a reading says of the tests
@@ -98,10 +99,6 @@ itemOf-same xs ys zs L k =
 
 -- ---- sizes
 
-pub le-roundUp : (w x : ℕ) → 0 < w → x ≤ roundUp w x
-unfolding roundUp
-le-roundUp w x h = omega (arith, div-add-mod' (x + (w - 1)) w, mod-lt (x + (w - 1)) h)
-
 pub le-size : (w L : ℕ) → 0 < w → 8 + L ≤ size w L
 unfolding size
 le-size w L h = omega (arith, le-roundUp w L h)
@@ -173,3 +170,13 @@ read-item-local w hw xs ys zs i e hs fit =
 pub read-short : (w : ℕ) (s : List ℕ) → length s < 8 → read w s ≡ stop
 unfolding read readBy
 read-short w s h = rw (lt-ltb (length s) 8 h)
+
+-- a Present item has a key of its own
+pub present-long : (c : ℕ) (d : List ℕ) → isPresent (kindOf c d) ≡ true → 4 ≤ length d
+present-long c d h = go (eqb c 0) (eqb c (checkOf d)) (leb 4 (length d)) refl h
+  where
+    go : (a b e : Bool) → leb 4 (length d) ≡ e → isPresent (pick a Removed (pick (both b e) Present Damaged)) ≡ true → 4 ≤ length d
+    go true b e q h = let z : _≡_ {A = ℕ} 0 1 = cc in absurd (omega arith)
+    go false true true q h = leb-true 4 (length d) q
+    go false true false q h = let z : _≡_ {A = ℕ} 0 1 = cc in absurd (omega arith)
+    go false false e q h = let z : _≡_ {A = ℕ} 0 1 = cc in absurd (omega arith)

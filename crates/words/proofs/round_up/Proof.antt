@@ -1,0 +1,20 @@
+use Rattle.laws.specs.Words.{le-roundUp, roundUp-lt}
+use Rattle.rules.specs.Bytes.{roundUp}
+use mathlib.Core.Path.{refl}
+use native.Mathlib.Omega.{arith}
+use borrow.Author.Needs.{needs}
+use Rattle.words.proofs.round_up.Statement.{statement}
+use Rattle.words.proofs.round_up.Tie as tie
+
+mul-result : tie.Need-mul-result
+unfolding roundUp
+mul-result c = omega (arith, roundUp-lt (c .args .w) (c .args .x) (omega arith))
+
+returns : tie.Need-returns
+unfolding roundUp
+returns c = (refl, le-roundUp (c .args .w) (c .args .x) (omega arith), roundUp-lt (c .args .w) (c .args .x) (omega arith))
+
+pub round-up-spec : {M : Type 1} → statement M
+round-up-spec =
+    tie.close (tie.spec
+    (λ c. search needs) (λ c. search needs) (λ c. search needs) mul-result returns)

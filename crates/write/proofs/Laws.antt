@@ -1,0 +1,292 @@
+-- The bytes of an item in words, and pieces of what is programmed.
+use mathlib.Core.Path.{_≡_, refl, sym, ap, _∙_}
+use Prim.Native.Nat.{ℕ, zero, suc, _+_, _-_, _%_, _≤_, _<_}
+use native.Mathlib.Omega.{arith}
+use native.Mathlib.Numerals.{add-one}
+use native.Mathlib.Nat.{add-mod, zero-mod, mod-self}
+use mathlib.Core.Bool.{Bool, true, false}
+use lib.Dec.{ltb}
+use borrow.Author.Tests.{ltb-true, ltb-false}
+use mathlib.Core.Logic.{_⊎_, ⊎-elim, inl, inr}
+use mathlib.Core.List.{List, [], _∷_, _++_, append-nil}
+use lib.ListN.{length, getD, set, take, drop, replicate, length-append, length-replicate, length-drop, length-take, take-append-drop, drop-of-length-le}
+use lib.Seq.{drop-cons, drop-drop, take-append-le, drop-append-le, length-take-le, take-suc, take-take, set-at, append-snoc, getD-drop}
+use Rattle.laws.specs.Splice.{take-over, window-replicate, drop-take}
+use Rattle.rules.specs.Bytes.{program, toLe, roundUp, zeros}
+use Rattle.rules.specs.Items.{pad, size, checkOf, encode, encodeData}
+use Rattle.laws.specs.Words.{le-roundUp, roundUp-lt, roundUp-words, word-in}
+use Rattle.laws.specs.Programs.{program-nil, program-append, program-window}
+use Rattle.laws.specs.Encoding.{length-pad}
+use Rattle.write.specs.Code.{from, dataBytes, copyBytes, Programmed}
+
+-- ---- bytes past the end of a list are 0xFF
+
+getD-in : (l : List ℕ) (i : ℕ) → i < length l → getD l i 0 ≡ getD l i 255
+getD-in [] i h = absurd (omega arith)
+getD-in (x ∷ l) zero h = refl
+getD-in (x ∷ l) (suc i) h = getD-in l i (omega arith)
+
+getD-past : (l : List ℕ) (i : ℕ) → length l ≤ i → 255 ≡ getD l i 255
+getD-past [] i h = refl
+getD-past (x ∷ l) zero h = absurd (omega arith)
+getD-past (x ∷ l) (suc i) h = getD-past l i (omega arith)
+
+-- a byte behind the four of a key
+pub byte-in : (a b c d : ℕ) (v : List ℕ) (i : ℕ) → 4 ≤ i → i - 4 < length v → getD v (i - 4) 0 ≡ getD (a ∷ b ∷ c ∷ d ∷ v) i 255
+byte-in a b c d v i h g =
+    let q : i ≡ suc (suc (suc (suc (i - 4)))) = omega arith in
+    getD-in v (i - 4) g ∙ sym (ap (λ (x : ℕ). getD (a ∷ b ∷ c ∷ d ∷ v) x 255) q)
+
+pub byte-past : (a b c d : ℕ) (v : List ℕ) (i : ℕ) → 4 ≤ i → length v ≤ i - 4 → 255 ≡ getD (a ∷ b ∷ c ∷ d ∷ v) i 255
+byte-past a b c d v i h g =
+    let q : i ≡ suc (suc (suc (suc (i - 4)))) = omega arith in
+    getD-past v (i - 4) g ∙ sym (ap (λ (x : ℕ). getD (a ∷ b ∷ c ∷ d ∷ v) x 255) q)
+
+pub eight : (l : List ℕ) (i x₀ x₁ x₂ x₃ x₄ x₅ x₆ x₇ : ℕ) → x₀ ≡ getD l i 255 → x₁ ≡ getD l (i + 1) 255 → x₂ ≡ getD l (i + 2) 255 → x₃ ≡ getD l (i + 3) 255
+    → x₄ ≡ getD l (i + 4) 255 → x₅ ≡ getD l (i + 5) 255 → x₆ ≡ getD l (i + 6) 255 → x₇ ≡ getD l (i + 7) 255
+    → x₀ ∷ x₁ ∷ x₂ ∷ x₃ ∷ x₄ ∷ x₅ ∷ x₆ ∷ x₇ ∷ [] ≡ from l i 8
+eight l i x₀ x₁ x₂ x₃ x₄ x₅ x₆ x₇ e₀ e₁ e₂ e₃ e₄ e₅ e₆ e₇ =
+    let q₂ : i + 1 + 1 ≡ i + 2 = omega arith in
+    let q₃ : i + 2 + 1 ≡ i + 3 = omega arith in
+    let q₄ : i + 3 + 1 ≡ i + 4 = omega arith in
+    let q₅ : i + 4 + 1 ≡ i + 5 = omega arith in
+    let q₆ : i + 5 + 1 ≡ i + 6 = omega arith in
+    let q₇ : i + 6 + 1 ≡ i + 7 = omega arith in
+    rw (q₂, q₃, q₄, q₅, q₆, q₇, e₀, e₁, e₂, e₃, e₄, e₅, e₆, e₇)
+
+getD-pad : (l : List ℕ) (r i : ℕ) → getD (l ++ replicate r 255) i 255 ≡ getD l i 255
+getD-pad [] zero i = refl
+getD-pad [] (suc r) zero = refl
+getD-pad [] (suc r) (suc i) = getD-pad [] r i
+getD-pad (x ∷ l) r zero = refl
+getD-pad (x ∷ l) r (suc i) = getD-pad l r i
+
+from-pad : (l : List ℕ) (r i n : ℕ) → from (l ++ replicate r 255) i n ≡ from l i n
+from-pad l r i zero = refl
+from-pad l r i (suc n) = rw (getD-pad l r i, from-pad l r (i + 1) n)
+
+from-is : (l : List ℕ) (i n : ℕ) → i + n ≤ length l → take n (drop i l) ≡ from l i n
+from-is l i zero h = refl
+from-is l i (suc n) h =
+    let g : i < length l = omega arith in
+    rw (drop-cons l i 0 g, getD-in l i g, ← add-one i, from-is l (i + 1) n (omega arith))
+
+take-from : (l : List ℕ) (i w n : ℕ) → w ≤ n → take w (from l i n) ≡ from l i w
+take-from l i zero n h = refl
+take-from l i (suc w) zero h = absurd (omega arith)
+take-from l i (suc w) (suc n) h = rw (take-from l (i + 1) w n (omega arith))
+
+-- a word that is built: w bytes of l from i on, with 0xFF behind it
+pub word-of : (l : List ℕ) (r i w : ℕ) → w ≤ 8 → i + w ≤ length (l ++ replicate r 255) → take w (from l i 8) ≡ take w (drop i (l ++ replicate r 255))
+word-of l r i w h g = take-from l i w 8 h ∙ sym (from-pad l r i w) ∙ sym (from-is (l ++ replicate r 255) i w g)
+
+-- ---- the data of an item
+
+module _ (w k : ℕ) (v : List ℕ) (hw : 4 ≤ w) (h8 : w ≤ 8) where
+  pub length-data : length (dataBytes w k v) ≡ roundUp w (4 + length v)
+  unfolding dataBytes
+  length-data = omega (arith, length-append (toLe 4 k ++ v) (pad w (4 + length v)), length-pad w (4 + length v) (omega arith))
+
+  pub length-on : length (dataBytes w k v) % w ≡ 0
+  length-on = rw length-data (roundUp-words w (4 + length v))
+
+  pub length-lt : length (dataBytes w k v) < 4 + length v + w
+  length-lt = rw length-data (roundUp-lt w (4 + length v) (omega arith))
+
+  pub word-is : (i : ℕ) → i + w ≤ length (dataBytes w k v) → take w (from (toLe 4 k ++ v) i 8) ≡ take w (drop i (dataBytes w k v))
+  unfolding pad dataBytes
+  word-is i h = word-of (toLe 4 k ++ v) (roundUp w (4 + length v) - (4 + length v)) i w h8 h
+
+  -- words that are taken from the value
+  pub value-is : (i m : ℕ) → 4 ≤ i → i + m ≤ 4 + length v → take m (drop (i - 4) v) ≡ take m (drop i (dataBytes w k v))
+  unfolding dataBytes
+  value-is i m h g =
+      let j = i - 4 in
+      let q : i ≡ suc (suc (suc (suc (i - 4)))) = omega arith in
+      let l : m ≤ length (drop j v) = rw length-drop (omega arith) in
+      sym (ap (λ (x : ℕ). take m (drop x (dataBytes w k v))) q ∙ rw (drop-append-le j v (pad w (4 + length v)) (omega arith)) (take-append-le m (drop j v) (pad w (4 + length v)) l))
+
+-- ---- a piece of what is programmed
+
+pub piece : (l l′ P x : List ℕ) (a i m : ℕ) → i + m ≤ length P → a + length P ≤ length l → x ≡ take m (drop i P) → l′ ≡ program l (a + i) x
+    → program l (a + i) (drop i P) ≡ program l′ (a + (i + m)) (drop (i + m) P)
+piece l l′ P x a i m h g e e′ =
+    let lx : length (take m (drop i P)) ≡ m = length-take-le m (drop i P) (rw length-drop (omega arith)) in
+    let ld = length-drop m (drop i P) in
+    let lp = length-drop i P in
+    let q : a + (i + m) ≡ a + i + length (take m (drop i P)) = omega arith in
+    let s : drop i P ≡ take m (drop i P) ++ drop m (drop i P) = sym (take-append-drop m (drop i P)) in
+    ap (program l (a + i)) s ∙ program-append l (a + i) (take m (drop i P)) (drop m (drop i P)) (omega arith)
+    ∙ rw (q, e′, e, drop-drop m i P)
+
+pub piece-none : (l P : List ℕ) (a i : ℕ) → length P ≤ i → program l (a + i) (drop i P) ≡ l
+piece-none l P a i h = rw (drop-of-length-le P h) (program-nil l (a + i))
+
+-- steps of whole words
+pub on-word : (w i m : ℕ) → i % w ≡ 0 → m % w ≡ 0 → (i + m) % w ≡ 0
+on-word w i m h g = add-mod i m w ∙ rw (h, g) (zero-mod w)
+
+-- ---- the two ways of `write_some`
+
+module _ (img img′ v : List ℕ) (a w k i : ℕ) (hw : 4 ≤ w) (h8 : w ≤ 8) (hi : i % w ≡ 0) (hin : i < 4 + length v)
+    (room : a + length (dataBytes w k v) ≤ length img) where
+  -- a word stands before the end of the data
+  pub word-fits : i + w ≤ length (dataBytes w k v)
+  word-fits =
+      let lt : i < length (dataBytes w k v) = rw (length-data w k v hw h8) (omega (arith, le-roundUp w (4 + length v) (omega arith))) in
+      word-in w i (length (dataBytes w k v)) hi (length-on w k v hw h8) lt
+
+  pub data-fits : 4 + length v ≤ length (dataBytes w k v)
+  data-fits = rw (length-data w k v hw h8) (le-roundUp w (4 + length v) (omega arith))
+
+  pub value-fits : (m : ℕ) → m ≤ 4 + length v - i → a + i + length (take (i - 4 + m - (i - 4)) (drop (i - 4) v)) ≤ length img
+  value-fits m hm = omega (arith, data-fits, length-take (i - 4 + m - (i - 4)) (drop (i - 4) v))
+
+  pub by-value : (m : ℕ) → 4 ≤ i → m ≤ 4 + length v - i → 0 < m → m % w ≡ 0 → img′ ≡ program img (a + i) (take (i - 4 + m - (i - 4)) (drop (i - 4) v))
+      → Programmed img img′ (dataBytes w k v) a w i (i + m)
+  by-value m h4 hm m₊ mw e =
+      let df = data-fits in
+      let q : i - 4 + m - (i - 4) ≡ m = omega arith in
+      let e′ : img′ ≡ program img (a + i) (take m (drop (i - 4) v)) = rw q at e in
+      record {
+        on = omega arith;
+        in-it = omega arith;
+        word = on-word w i m hi mw;
+        left = piece img img′ (dataBytes w k v) (take m (drop (i - 4) v)) a i m (omega arith) room (value-is w k v hw h8 i m h4 (omega arith)) e′;
+      }
+
+  pub by-word : img′ ≡ program img (a + i) (take w (from (toLe 4 k ++ v) i 8)) → Programmed img img′ (dataBytes w k v) a w i (i + w)
+  by-word e =
+      let wf = word-fits in
+      record {
+        on = omega arith;
+        in-it = wf;
+        word = on-word w i w hi (mod-self w);
+        left = piece img img′ (dataBytes w k v) (take w (from (toLe 4 k ++ v) i 8)) a i w wf room (word-is w k v hw h8 i wf) e;
+      }
+
+-- ---- the whole of the data is written where all of it is programmed
+pub all-written : (img P : List ℕ) (a w i n : ℕ) → i % w ≡ 0 → length P % w ≡ 0 → length P < n + w → n ≤ i → i ≤ length P → program img (a + i) (drop i P) ≡ img
+all-written img P a w i n hi hP lt hn le = piece-none img P a i (go (ltb i (length P)) refl)
+  where
+    go : (b : Bool) → ltb i (length P) ≡ b → length P ≤ i
+    go true e = let s = word-in w i (length P) hi hP (ltb-true i (length P) e) in absurd (omega arith)
+    go false e = ltb-false i (length P) e
+
+-- ---- an item is its header and its data
+
+abbrev pub headOf : ℕ → ℕ → List ℕ
+headOf L C = toLe 2 L ++ (toLe 2 (65535 - L) ++ toLe 4 C)
+
+pub size-data : (w k : ℕ) (v : List ℕ) → 4 ≤ w → w ≤ 8 → size w (4 + length v) ≡ 8 + length (dataBytes w k v)
+unfolding size
+size-data w k v hw h8 = rw (length-data w k v hw h8)
+
+zeros-more : (xs ys : List ℕ) → zeros (xs ++ ys) ≡ zeros xs + zeros ys
+zeros-more [] ys = omega arith
+zeros-more (x ∷ xs) ys = omega (arith, zeros-more xs ys)
+
+item-is : (w k C : ℕ) (v : List ℕ) → C ≡ zeros (toLe 4 k) + zeros v + 1 → headOf (4 + length v) C ++ dataBytes w k v ≡ encode w k v
+unfolding encode encodeData dataBytes
+item-is w k C v hC =
+    let l : length (toLe 4 k ++ v) ≡ 4 + length v = omega arith in
+    let c : checkOf (toLe 4 k ++ v) ≡ C = omega (arith, zeros-more (toLe 4 k) v) in
+    rw (l, c)
+
+pub item-written : (l l₁ l₂ : List ℕ) (at w k C : ℕ) (H v : List ℕ) → 4 ≤ w → w ≤ 8 → at + size w (4 + length v) ≤ length l
+    → C ≡ zeros (toLe 4 k) + zeros v + 1 → H ≡ headOf (4 + length v) C → l₁ ≡ program l at H → l₂ ≡ program l₁ (at + 8) (dataBytes w k v)
+    → l₂ ≡ program l at (encode w k v)
+item-written l l₁ l₂ at w k C H v hw h8 room hC hH e₁ e₂ =
+    let sd = size-data w k v hw h8 in
+    let P : List ℕ = dataBytes w k v in
+    let q : at + length (headOf (4 + length v) C) ≡ at + 8 = omega arith in
+    let e₁′ : l₁ ≡ program l at (headOf (4 + length v) C) = e₁ ∙ ap (program l at) hH in
+    e₂ ∙ rw (e₁′, ← q) (sym (program-append l at (headOf (4 + length v) C) P (omega arith))) ∙ ap (program l at) (item-is w k C v hC)
+
+-- ---- copies
+
+-- one more byte of a word that is built
+pub word-turn : (img : List ℕ) (s j : ℕ) → j < 8 → s + j < length img
+    → set (take j (drop s img) ++ replicate (8 - j) 255) j (getD img (s + j) 0) ≡ take (j + 1) (drop s img) ++ replicate (8 - (j + 1)) 255
+word-turn img s j h g =
+    let q : 8 - j ≡ suc (8 - (j + 1)) = omega arith in
+    let ld = length-drop s img in
+    let lj : length (take j (drop s img)) ≡ j = length-take-le j (drop s img) (omega arith) in
+    rw (q, ← getD-drop s img j 0, set-at (take j (drop s img)) 255 (replicate (8 - (j + 1)) 255) (getD (drop s img) j 0) j lj, add-one, take-suc (drop s img) j 0 (omega arith))
+    (sym (append-snoc (take j (drop s img)) (getD (drop s img) j 0) (replicate (8 - suc j) 255)))
+
+-- the first w bytes of it
+pub word-taken : (x : List ℕ) (m w : ℕ) → length x ≡ m → m ≤ w → w ≤ 8 → take w (x ++ replicate (8 - m) 255) ≡ x ++ replicate (w - m) 255
+word-taken x m w l h g =
+    rw (take-over w x (replicate (8 - m) 255) (omega arith), l) (ap (λ (y : List ℕ). x ++ y) (window-replicate (8 - m) 0 (w - m) 255 (omega arith)))
+
+-- what a word of a copy holds: bytes of the source alone, or its last ones and 0xFF
+module _ (img : List ℕ) (s n w i : ℕ) (h8 : w ≤ 8) (hi : i < n) (hs : s + n ≤ length img) where
+  length-part : length (take n (drop s img)) ≡ n
+  length-part = length-take-le n (drop s img) (rw length-drop (omega arith))
+
+  part-is : drop i (take n (drop s img)) ≡ take (n - i) (drop (s + i) img)
+  part-is = drop-take i n (drop s img) ∙ rw (drop-drop i s img)
+
+  pub next-full : w ≤ n - i → take w (drop (s + i) img) ++ replicate (w - w) 255 ≡ take w (from (take n (drop s img)) i 8)
+  next-full h =
+      let z : w - w ≡ 0 = omega arith in
+      let X : List ℕ = take n (drop s img) in
+      let l = length-part in
+      rw (z, append-nil (take w (drop (s + i) img)))
+      (sym (take-from X i w 8 h8 ∙ sym (from-is X i w (omega arith)) ∙ rw (part-is) (take-take w (n - i) (drop (s + i) img) h)))
+
+  pub next-short : n - i < w → take (n - i) (drop (s + i) img) ++ replicate (w - (n - i)) 255 ≡ take w (from (take n (drop s img)) i 8)
+  next-short h =
+      let X : List ℕ = take n (drop s img) in
+      let l = length-part in
+      let lr = length-replicate {A = ℕ} w 255 in
+      let la = length-append X (replicate w 255) in
+      let ld : length (drop i X) ≡ n - i = rw length-drop (omega arith) in
+      sym (word-of X w i w h8 (omega arith)
+      ∙ rw (drop-append-le i X (replicate w 255) (omega arith), take-over w (drop i X) (replicate w 255) (omega arith), ld, part-is)
+      (ap (λ (y : List ℕ). take (n - i) (drop (s + i) img) ++ y) (window-replicate w 0 (w - (n - i)) 255 (omega arith))))
+
+-- ---- a copy of an item
+
+module _ (img₀ : List ℕ) (s len t w : ℕ) (hw : 4 ≤ w) (h8 : w ≤ 8) (h8w : 8 % w ≡ 0) (hs : s + 8 + len ≤ length img₀) where
+  pub length-copy : length (copyBytes w img₀ s len) ≡ size w len
+  unfolding copyBytes size
+  length-copy =
+      let l : length (take (8 + len) (drop s img₀)) ≡ 8 + len = length-take-le (8 + len) (drop s img₀) (rw length-drop (omega arith)) in
+      omega (arith, length-append (take (8 + len) (drop s img₀)) (pad w len), length-pad w len (omega arith))
+
+  pub copy-on : length (copyBytes w img₀ s len) % w ≡ 0
+  unfolding size
+  copy-on = rw length-copy (on-word w 8 (roundUp w len) h8w (roundUp-words w len))
+
+  pub copy-lt : length (copyBytes w img₀ s len) < 8 + len + w
+  unfolding size
+  copy-lt = rw length-copy (omega (arith, roundUp-lt w len (omega arith)))
+
+  -- there is a whole word at i
+  pub copy-in : (i : ℕ) → i % w ≡ 0 → i < 8 + len → i + w ≤ length (copyBytes w img₀ s len)
+  unfolding size
+  copy-in i hi lt =
+      word-in w i (length (copyBytes w img₀ s len)) hi copy-on (rw length-copy (omega (arith, le-roundUp w len (omega arith))))
+
+  -- a turn: the word at i is programmed, and the source stays
+  module _ (img img′ : List ℕ) (i : ℕ) (hi : i % w ≡ 0) (lt : i < 8 + len) (li : length img ≡ length img₀) (ht : t + size w len ≤ length img₀)
+      (same : take (8 + len) (drop s img) ≡ take (8 + len) (drop s img₀))
+      (e : img′ ≡ program img (t + i) (take w (from (take (8 + len) (drop s img)) i 8))) where
+    copy-word : take w (from (take (8 + len) (drop s img)) i 8) ≡ take w (drop i (copyBytes w img₀ s len))
+    unfolding copyBytes pad
+    copy-word = ap (λ (x : List ℕ). take w (from x i 8)) same ∙ word-of (take (8 + len) (drop s img₀)) (roundUp w len - len) i w h8 (copy-in i hi lt)
+
+    pub copy-left : program img (t + i) (drop i (copyBytes w img₀ s len)) ≡ program img′ (t + (i + w)) (drop (i + w) (copyBytes w img₀ s len))
+    copy-left =
+        piece img img′ (copyBytes w img₀ s len) (take w (from (take (8 + len) (drop s img)) i 8)) t i w (copy-in i hi lt)
+        (omega (arith, length-copy)) copy-word e
+
+    pub copy-source : ((s + 8 + len ≤ t) ⊎ (t + size w len ≤ s)) → take (8 + len) (drop s img′) ≡ take (8 + len) (drop s img₀)
+    copy-source d =
+        let lx : length (take w (from (take (8 + len) (drop s img)) i 8)) ≤ w = rw (length-take w (from (take (8 + len) (drop s img)) i 8)) (omega arith) in
+        let ci = copy-in i hi lt in
+        let lc = length-copy in
+        rw e (program-window img (t + i) (take w (from (take (8 + len) (drop s img)) i 8)) (omega arith) s (8 + len)
+        (⊎-elim (λ x. inl (omega arith)) (λ x. inr (omega arith)) d) ∙ same)
