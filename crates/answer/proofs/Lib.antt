@@ -1,0 +1,2 @@
+-- laws of this crate
+pub mod Ladder

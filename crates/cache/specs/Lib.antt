@@ -1,0 +1,2 @@
+-- what the code's arrays stand for
+pub mod Code

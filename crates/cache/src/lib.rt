@@ -1,0 +1,142 @@
+// The cache of places, in two arrays of 32, of which a call uses the first entries.
+ghost use mathlib.Core.Path.{_≡_};
+ghost use mathlib.Core.List.{_∷_, _++_};
+ghost use Prim.Native.Nat.{suc, _-_, _≤_, _<_};
+ghost use lib.ListN.{take, drop, replicate};
+ghost use Rattle.rules.specs.Cache.{lookup, note, forget, clear};
+ghost use Rattle.cache.specs.Code.{pointers, Past, index};
+
+// Entries in order, newest first. Place 0 is an empty entry.
+#[repr(C)]
+pub struct Cache {
+    pub keys: [u32; 32],
+    pub places: [u32; 32],
+}
+
+// The index of the first entry in use with the key; size where there is none.
+fn seek(cache: Cache, size: usize, key: u32) -> usize
+    requires { ⌜ size ≤ 32 ⌝ }
+    ensures { λ r. ⌜ r ≡ index key (pointers size cache) ⌝ }
+{
+    let mut i: usize = 0;
+    while i < size {
+        if cache.keys[i] == key {
+            if cache.places[i] != 0 {
+                return i;
+            }
+        }
+        i += 1;
+    }
+    i
+}
+
+// x at the front, and the elements before j one further: the one at j is gone.
+fn shifted(a: [u32; 32], j: usize, x: u32) -> [u32; 32]
+    requires { ⌜ j < 32 ⌝ }
+    ensures { λ r. ⌜ r ≡ x ∷ (take j a ++ drop (suc j) a) ⌝ }
+{
+    let mut b = a;
+    let mut carry = x;
+    let mut k: usize = 0;
+    while k <= j {
+        let t = b[k];
+        b[k] = carry;
+        carry = t;
+        k += 1;
+    }
+    b
+}
+
+// Of the first n elements the one at j is gone, those after it are one nearer, and the last is 0.
+fn pulled(a: [u32; 32], j: usize, n: usize) -> [u32; 32]
+    requires { ⌜ (j < n) × (n ≤ 32) ⌝ }
+    ensures { λ r. ⌜ r ≡ take (n - 1) (take j a ++ drop (suc j) a) ++ (0 ∷ drop n a) ⌝ }
+{
+    let mut b = a;
+    let mut k = j;
+    while k + 1 < n {
+        b[k] = b[k + 1];
+        k += 1;
+    }
+    b[k] = 0;
+    b
+}
+
+// The first n elements are 0.
+fn zeroed(a: [u32; 32], n: usize) -> [u32; 32]
+    requires { ⌜ n ≤ 32 ⌝ }
+    ensures { λ r. ⌜ r ≡ replicate n 0 ++ drop n a ⌝ }
+{
+    let mut b = a;
+    let mut i: usize = 0;
+    while i < n {
+        b[i] = 0;
+        i += 1;
+    }
+    b
+}
+
+// The entry at the front, in place of the one at j.
+fn put_first(cache: Cache, j: usize, key: u32, place: u32) -> Cache
+    requires { ⌜ j < 32 ⌝ }
+    ensures { λ r. ⌜ (r .keys ≡ key ∷ (take j (cache .keys) ++ drop (suc j) (cache .keys)))
+        × (r .places ≡ place ∷ (take j (cache .places) ++ drop (suc j) (cache .places))) ⌝ }
+{
+    let keys = cache.keys;
+    let places = cache.places;
+    let k = shifted(keys, j, key);
+    let p = shifted(places, j, place);
+    Cache { keys: k, places: p }
+}
+
+// The place that the cache has for the key, 0 where it has none.
+pub fn find(cache: Cache, size: usize, key: u32) -> u32
+    requires { ⌜ size ≤ 32 ⌝ }
+    ensures { λ r. ⌜ r ≡ lookup key (pointers size cache) ⌝ }
+{
+    let i = seek(cache, size, key);
+    if i < size { cache.places[i] } else { 0 }
+}
+
+// The key with this place at the front: its old entry is gone, or else the last.
+pub fn note(cache: Cache, size: usize, key: u32, place: u32) -> Cache
+    requires { ⌜ size ≤ 32 ⌝ }
+    ensures { λ r. ⌜ (pointers size r ≡ note key place (pointers size cache)) × Past size cache r ⌝ }
+{
+    if size == 0 {
+        return cache;
+    }
+    let i = seek(cache, size, key);
+    if i < size {
+        return put_first(cache, i, key, place);
+    }
+    put_first(cache, size - 1, key, place)
+}
+
+// The key's entry goes empty to the back.
+pub fn forget(cache: Cache, size: usize, key: u32) -> Cache
+    requires { ⌜ size ≤ 32 ⌝ }
+    ensures { λ r. ⌜ (pointers size r ≡ forget key (pointers size cache)) × Past size cache r ⌝ }
+{
+    let i = seek(cache, size, key);
+    if size <= i {
+        return cache;
+    }
+    let keys = cache.keys;
+    let places = cache.places;
+    let k = pulled(keys, i, size);
+    let p = pulled(places, i, size);
+    Cache { keys: k, places: p }
+}
+
+// All entries are empty.
+pub fn empty(cache: Cache, size: usize) -> Cache
+    requires { ⌜ size ≤ 32 ⌝ }
+    ensures { λ r. ⌜ (pointers size r ≡ clear (pointers size cache)) × Past size cache r ⌝ }
+{
+    let keys = cache.keys;
+    let places = cache.places;
+    let k = zeroed(keys, size);
+    let p = zeroed(places, size);
+    Cache { keys: k, places: p }
+}
