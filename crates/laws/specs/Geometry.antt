@@ -1,12 +1,12 @@
 -- Geometry: what a size that is not refused gives, and what every proof uses of a geometry and its image.
-use mathlib.Core.Path.{_≡_, refl, ap}
+use mathlib.Core.Path.{_≡_, refl, sym, ap, _∙_}
 use mathlib.Core.Logic.{_≢_, _⊎_, inl, inr, ⊎-elim}
 use Prim.Native.Nat.{ℕ, _+_, _-_, _*_, _/_, _%_, _≤_, _<_}
 use mathlib.Core.Bool.{Bool, true, false, not}
 use mathlib.Core.List.{List}
 use lib.ListN.{length}
 use lib.Dec.{ltb, eqb}
-use native.Mathlib.Nat.{div-add-mod', le-div-iff-mul-le, mul-le-mul-right, eq-or-lt-of-le}
+use native.Mathlib.Nat.{mul-mod-left, div-add-mod', le-div-iff-mul-le, mul-le-mul-right, eq-or-lt-of-le}
 use native.Mathlib.Omega.{arith}
 use borrow.Author.Tests.{ltb-false, le-ltb, eqb-true, ne-eqb}
 use Rattle.rules.specs.declared.{Geo.Geo, Answer.Answer, Answer.the-variants.Done, Answer.the-variants.EndRangeNotAtPageBoundary, Answer.the-variants.RangeTooSmall, Answer.the-variants.PagesTooSmall, Answer.the-variants.Geometry, Answer.the-variants.CacheSize, Answer.the-variants.ItemTooBig}
@@ -34,6 +34,9 @@ module _ (G : Geo) (len : ℕ) (H : Held G len) where
   -- a header is whole words
   pub header-words : (j : ℕ) × (j * G .word ≡ 8)
   header-words = ⊎-elim (λ q. (2, rw q)) (λ q. (1, rw q)) word-is
+
+  pub header-on : 8 % G .word ≡ 0
+  header-on = let j = header-words in ap (λ (x : ℕ). x % G .word) (sym (j .1)) ∙ mul-mod-left (j .0) (G .word)
 
   -- so is what a page holds beside its marks and a header
   pub inner-words : (j : ℕ) × (j * G .word + 2 * G .word + 8 ≡ G .page)

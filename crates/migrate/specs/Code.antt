@@ -1,0 +1,68 @@
+-- What the migration's code says of its steps.
+use mathlib.Core.Path.{_≡_}
+use Prim.Native.Nat.{ℕ, _+_, _≤_}
+use mathlib.Core.List.{List, _++_}
+use lib.ListN.{take, drop}
+use Rattle.rules.specs.declared.{Geo.Geo, Answer.the-variants.Done, Answer.the-variants.Corrupted}
+use Rattle.rules.specs.Bytes.{pick, program}
+use Rattle.rules.specs.Items.{isPresent, itemOf, Entry, size, pad, presents}
+use Rattle.rules.specs.Pages.{blankAt}
+use Rattle.rules.specs.Cache.{note}
+use Rattle.rules.specs.Runs.{St, Out, out, End, end, final}
+use Rattle.rules.specs.Fetch.{fetchIn}
+use Rattle.rules.specs.Store.{migrateOne, migrateAll}
+use Rattle.items.specs.Code.{part, scanIn}
+use Rattle.cache.specs.Code.{pointers}
+use Rattle.fetch.specs.declared.{Mem.Mem}
+use Rattle.fetch.specs.Code.{stOf, Kept}
+use Rattle.migrate.specs.declared.{Moved.Moved}
+
+-- the entry of an item of data length L at place a of an area that ends at e
+abbrev pub entryAt : List ℕ → ℕ → ℕ → ℕ → Entry
+entryAt img a e L = record { at = a; it = itemOf (part img a e) L }
+
+-- the run goes on from r's place, or is corrupt
+abbrev pub goOn : Moved → St → (ℕ → St → Out) → Out
+goOn r s k = pick (r .ok) (k (r .to) s) (out Corrupted s)
+
+-- the definition's step for a Present entry, and for any
+abbrev pub oneOf : Geo → Entry → ℕ → St → (ℕ → St → Out) → Out
+oneOf G e wp s k = migrateOne G e wp (fetchIn G (e .it .key) s .st) k (fetchIn G (e .it .key) s .res)
+
+abbrev pub stepOf : Geo → Entry → ℕ → St → (ℕ → St → Out) → Out
+stepOf G e wp s k = pick (isPresent (e .it .kind)) (oneOf G e wp s k) (k wp s)
+
+-- what a copy leaves
+pub record CopiedOk (G : Geo) (n : ℕ) (img img′ : List ℕ) (mem : Mem) (key a L wp : ℕ) (r : Moved) : Type 0 where
+  pub ok-is : r .ok ≡ blankAt img wp (size (G .word) L)
+  pub st-is : stOf n img′ (r .mem)
+      ≡ pick (r .ok) (record { img = program img wp (take (8 + L) (drop a img) ++ pad (G .word) L); cache = note key wp (pointers n (mem .cache)); erased = mem .erased }) (stOf n img mem)
+  pub to-is : r .to ≡ pick (r .ok) (wp + size (G .word) L) wp
+  pub kept : Kept n mem (r .mem)
+
+-- what a step leaves beside its run: the rest of the source, and the place to write
+pub record Around (G : Geo) (n : ℕ) (img img′ : List ℕ) (mem : Mem) (a e L wp : ℕ) (r : Moved) : Type 0 where
+  pub kept : Kept n mem (r .mem)
+  pub rest : part img′ (a + size (G .word) L) e ≡ part img (a + size (G .word) L) e
+  pub low : wp ≤ r .to
+  pub high : r .to ≤ wp + size (G .word) L
+
+pub record MovedOk (G : Geo) (n : ℕ) (img img′ : List ℕ) (mem : Mem) (a e L wp : ℕ) (r : Moved) : Type 0 where
+  pub step : (k : ℕ → St → Out) → final (goOn r (stOf n img′ (r .mem)) k) ≡ final (oneOf G (entryAt img a e L) wp (stOf n img mem) k)
+  pub around : Around G n img img′ mem a e L wp r
+
+pub record ItemOk (G : Geo) (n : ℕ) (img img′ : List ℕ) (mem : Mem) (a e L wp : ℕ) (r : Moved) : Type 0 where
+  pub step : (k : ℕ → St → Out) → final (goOn r (stOf n img′ (r .mem)) k) ≡ final (stepOf G (entryAt img a e L) wp (stOf n img mem) k)
+  pub around : Around G n img img′ mem a e L wp r
+
+-- the end of a run over items
+abbrev pub endOf : Moved → St → End
+endOf r s = pick (r .ok) (end Done s) (end Corrupted s)
+
+-- where the definition's run over the items of an area from a place on ends
+abbrev pub runOf : Geo → ℕ → List ℕ → Mem → ℕ → ℕ → ℕ → End
+runOf G n img mem a e wp = final (migrateAll G (presents (scanIn (G .word) img a e .items)) wp (stOf n img mem))
+
+pub record AllOk (G : Geo) (n : ℕ) (img img′ : List ℕ) (mem : Mem) (a e wp : ℕ) (r : Moved) : Type 0 where
+  pub run : endOf r (stOf n img′ (r .mem)) ≡ runOf G n img mem a e wp
+  pub kept : Kept n mem (r .mem)
