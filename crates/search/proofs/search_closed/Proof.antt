@@ -4,7 +4,7 @@ use Prim.Native.Nat.{_<_}
 use mathlib.Core.Path.{_≡_, refl, sym, _∙_}
 use Rattle.rules.specs.Fetch.{searchClosed}
 use Rattle.items.specs.Code.{told}
-use Rattle.search.specs.Code.{downs}
+use Rattle.ring.specs.Code.{downs}
 use borrow.Author.Needs.{needs}
 use Rattle.search.proofs.search_closed.Statement.{statement}
 use Rattle.search.proofs.search_closed.Tie as tie
