@@ -143,13 +143,13 @@ fine-stays w img a e End h8 h he f = tt
 fine-stays w img a e Skip h8 h he f = omega (arith, long-part img a e he)
 fine-stays w img a e (rd.Item L) h8 h he f = let l = long-part img a e he in (omega arith, omega arith, omega arith)
 
-pub spot-step : (s : List ℕ) (at L k e : ℕ) (b b′ : Spot) → 4 ≤ at → at + 8 + L ≤ e → L < 65536 → spotIn e b → b′ ≡ orOf (single s at L k) b → spotIn e b′
-spot-step s at L k e b b′ h₄ h hL i y = rw y (go (isPresent (itemOf s L .kind)))
+pub spot-step : (s : List ℕ) (at L k e : ℕ) (b b′ : Spot) → 4 ≤ at → at + 8 + L ≤ e → L < 65536 → 8 + L ≤ length s → spotIn e b → b′ ≡ orOf (single s at L k) b → spotIn e b′
+spot-step s at L k e b b′ h₄ h hL hs i y = rw y (go (isPresent (itemOf s L .kind)) refl)
   where
-    val : (t : Bool) → spotIn e (orOf (told (pick t (found (record { at = at; it = itemOf s L })) missing)) b)
-    val true = (h₄, h, hL)
-    val false = i
+    val : 4 ≤ L → (t : Bool) → spotIn e (orOf (told (pick t (found (record { at = at; it = itemOf s L })) missing)) b)
+    val l true = (h₄, h, l, hL)
+    val l false = i
 
-    go : (t : Bool) → spotIn e (orOf (told (lastWith k (pick t (record { at = at; it = itemOf s L } ∷ []) []))) b)
-    go true = val (eqb (itemOf s L .key) k)
-    go false = i
+    go : (t : Bool) → isPresent (itemOf s L .kind) ≡ t → spotIn e (orOf (told (lastWith k (pick t (record { at = at; it = itemOf s L } ∷ []) []))) b)
+    go true q = val (kind-long s L hs q) (eqb (itemOf s L .key) k)
+    go false q = i

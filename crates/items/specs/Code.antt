@@ -56,8 +56,8 @@ stays w a e End = Unit {0}
 stays w a e Skip = a + w ≤ e
 stays w a e (Item L) = (a + size w L ≤ e) × (a + 8 + L ≤ e) × (L < 65536)
 
--- an item that is found lies before e
+-- an item that is found lies before e and has a key
 abbrev pub spotIn : ℕ → Spot → Type 0
 spotIn e Corrupt = Unit {0}
 spotIn e Missing = Unit {0}
-spotIn e (At p L) = (4 ≤ p) × (p + 8 + L ≤ e) × (L < 65536)
+spotIn e (At p L) = (4 ≤ p) × (p + 8 + L ≤ e) × (4 ≤ L) × (L < 65536)

@@ -20,5 +20,6 @@ pub mod Piece
 pub mod Rings
 pub mod Moves
 -- 5 runs and their flash steps
+pub mod Plain
 pub mod RunLaws
 pub mod Plays

@@ -50,7 +50,7 @@ loop-again-2 c =
     let a = c .before .before .before .before .before .before .before .before .before .before .args in
     let l = c .before .before .before .before .before .before .before .before .loop in
     let f = rw (c .before .before .before .before .r .given .1) at (c .before .before .before .before .before .before .look-at .ensures .1) in
-    (omega arith, omega arith, rw (c .size .ensures .0) (last-item (a .w) (omega arith) (a .img .now) (a .e) (omega arith) (l .at) (c .before .before .before .before .before .before .look-at .result) (c .before .before .before .before .before .before .before .loop-test .taken) (c .before .before .before .before .before .before .look-at .ensures .0) (a .wanted) (c .before .before .before .before .r .given .0 .0) (l .best) (c .before .better .result) _ (c .before .before .before .before .r .given .1) (l .inv .2) (c .before .better .ensures)), spot-step (part (a .img .now) (l .at) (a .e)) (l .at) (c .before .before .before .before .r .given .0 .0) (a .wanted) (a .e) (l .best) (c .before .better .result) (omega arith) (omega arith) (omega arith) (l .inv .3) (c .before .better .ensures))
+    (omega arith, omega arith, rw (c .size .ensures .0) (last-item (a .w) (omega arith) (a .img .now) (a .e) (omega arith) (l .at) (c .before .before .before .before .before .before .look-at .result) (c .before .before .before .before .before .before .before .loop-test .taken) (c .before .before .before .before .before .before .look-at .ensures .0) (a .wanted) (c .before .before .before .before .r .given .0 .0) (l .best) (c .before .better .result) _ (c .before .before .before .before .r .given .1) (l .inv .2) (c .before .better .ensures)), spot-step (part (a .img .now) (l .at) (a .e)) (l .at) (c .before .before .before .before .r .given .0 .0) (a .wanted) (a .e) (l .best) (c .before .better .result) (omega arith) (omega arith) (omega arith) (omega (arith, long-part (a .img .now) (l .at) (a .e) (omega arith))) (l .inv .3) (c .before .better .ensures))
 
 returns-2 : tie.Need-returns-2 Inv-loop μ-loop
 returns-2 c =

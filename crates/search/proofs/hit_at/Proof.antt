@@ -12,7 +12,7 @@ key-requires : tie.Need-key-requires
 key-requires c κs = let a = c .before .before .before .before .before .before .before .before .before .args in let f = rw (c .before .before .before .before .before .r .given .1) at (c .before .before .before .before .before .before .before .look-at .ensures .1) in let l = long-part (a .img .now) (a .a) (a .e) (omega arith) in let k = rw (c .before .if1 .taken) at (c .before .before .present .ensures .1) in omega arith
 
 returns : tie.Need-returns
-returns c = let f = rw (c .before .before .before .before .before .before .before .r .given .1) at (c .before .before .before .before .before .before .before .before .before .look-at .ensures .1) in (rw (← c .before .before .before .before .before .before .before .before .before .look-at .ensures .0, c .before .before .before .before .before .before .before .r .given .1, ← c .before .before .before .before .present .ensures .0, c .before .before .before .if1 .taken, ← c .before .key .ensures, eq-eqb _ _ (c .if2 .taken)), omega arith)
+returns c = let f = rw (c .before .before .before .before .before .before .before .r .given .1) at (c .before .before .before .before .before .before .before .before .before .look-at .ensures .1) in let k = rw (c .before .before .before .if1 .taken) at (c .before .before .before .before .present .ensures .1) in (rw (← c .before .before .before .before .before .before .before .before .before .look-at .ensures .0, c .before .before .before .before .before .before .before .r .given .1, ← c .before .before .before .before .present .ensures .0, c .before .before .before .if1 .taken, ← c .before .key .ensures, eq-eqb _ _ (c .if2 .taken)), omega arith)
 
 returns-2 : tie.Need-returns-2
 returns-2 c = (rw (← c .before .before .look-at .ensures .0, c .enum-told .given .1), tt)

@@ -1,0 +1,2 @@
+-- what the functions' proofs cite
+pub mod Laws

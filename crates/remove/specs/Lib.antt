@@ -1,0 +1,2 @@
+-- what the code says
+pub mod Code

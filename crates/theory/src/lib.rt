@@ -1,0 +1,1 @@
+// Lemmas about whole calls; no code.
