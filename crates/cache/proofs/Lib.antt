@@ -5,3 +5,5 @@ pub mod Loops
 pub mod Entries
 pub mod Pointers
 pub mod Changes
+-- all 32 entries, by the entries in use and those that stay
+pub mod Whole

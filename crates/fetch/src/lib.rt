@@ -1,10 +1,10 @@
-// Fetch: the cached place, else the search; the value as a part of the image.
+// Fetch: the cached place, else the search.
 ghost use mathlib.Core.Path.{_≡_};
 ghost use Prim.Native.Nat.{_≤_};
 ghost use lib.ListN.{length};
 ghost use Rattle.rules.specs.Held.{Held};
 ghost use Rattle.rules.specs.Cache.{note, clear};
-ghost use Rattle.rules.specs.Fetch.{view, fullFetch, fetchIn};
+ghost use Rattle.rules.specs.Fetch.{fullFetch, fetchIn};
 ghost use Rattle.items.specs.Code.{spotIn};
 ghost use Rattle.cache.specs.Code.{pointers};
 ghost use Rattle.fetch.specs.Code.{stOf, gotOf, toldGot, Kept};
@@ -23,18 +23,6 @@ pub struct Mem {
 pub struct Fetched {
     pub mem: Mem,
     pub spot: Spot,
-}
-
-// The len bytes at place, the empty start of the image where they do not lie in it.
-pub fn view(img: &[u8], place: usize, len: usize) -> &[u8]
-    ensures { λ r. ⌜ now r ≡ view (now (img .entry)) place len ⌝ }
-{
-    if place <= img.len() {
-        if len <= img.len() - place {
-            return &img[place..place + len];
-        }
-    }
-    &img[0..0]
 }
 
 // A place noted.

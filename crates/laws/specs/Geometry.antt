@@ -120,6 +120,46 @@ accepts w E len m v s =
       le-ltb (dataLimit w E) (4 + v) (s .fits),
     )
 
+-- ---- a refusal's number
+
+picked : (b : Bool) (x r : Answer) → number x ≢ 0 → (number r ≡ 0 → r ≡ Done) → number (pick b x r) ≡ 0 → pick b x r ≡ Done
+picked true x r n h e = absurd (n e)
+picked false x r n h e = h e
+
+-- number 0: none is due
+pub zero-done : (w E len m v : ℕ) → number (refusal w E len m v) ≡ 0 → refusal w E len m v ≡ Done
+unfolding refusal
+zero-done w E len m v =
+    picked (eqb E 0) PagesTooSmall _ (λ z. absurd (omega arith))
+    (picked (not (eqb (len % E) 0)) EndRangeNotAtPageBoundary _ (λ z. absurd (omega arith))
+    (picked (ltb len (2 * E)) RangeTooSmall _ (λ z. absurd (omega arith))
+    (picked (ltb E (3 * w + 8)) PagesTooSmall _ (λ z. absurd (omega arith))
+    (picked (not (eqb (E % w) 0)) Geometry _ (λ z. absurd (omega arith))
+    (picked (ltb 32768 E) Geometry _ (λ z. absurd (omega arith))
+    (picked (ltb 256 (len / E)) Geometry _ (λ z. absurd (omega arith))
+    (picked (ltb 32 m) CacheSize _ (λ z. absurd (omega arith))
+    (picked (ltb (dataLimit w E) (4 + v)) ItemTooBig Done (λ z. absurd (omega arith)) (λ z. refl)))))))))
+
+low : (b : Bool) (x r : Answer) → number x ≤ 6 → number r ≤ 6 → number (pick b x r) ≤ 6
+low true x r h k = h
+low false x r h k = k
+
+-- it is at most 6
+pub refusal-low : (w E len m v : ℕ) → number (refusal w E len m v) ≤ 6
+unfolding refusal
+refusal-low w E len m v =
+    low (eqb E 0) PagesTooSmall _ (omega arith)
+    (low (not (eqb (len % E) 0)) EndRangeNotAtPageBoundary _ (omega arith)
+    (low (ltb len (2 * E)) RangeTooSmall _ (omega arith)
+    (low (ltb E (3 * w + 8)) PagesTooSmall _ (omega arith)
+    (low (not (eqb (E % w) 0)) Geometry _ (omega arith)
+    (low (ltb 32768 E) Geometry _ (omega arith)
+    (low (ltb 256 (len / E)) Geometry _ (omega arith)
+    (low (ltb 32 m) CacheSize _ (omega arith)
+    (low (ltb (dataLimit w E) (4 + v)) ItemTooBig Done (omega arith) (omega arith)))))))))
+
+-- ---- what the code asks
+
 -- sizes that are not refused are what the code and the proofs ask
 pub held-of : (w E len m v : ℕ) → (w ≡ 4) ⊎ (w ≡ 8) → Accepted w E len m v → Held (geoOf w E len) len
 held-of w E len m v h s =

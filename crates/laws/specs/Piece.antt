@@ -81,7 +81,7 @@ pub record Piece (w left a : ℕ) (new : List ℕ) (es : List Entry) : Type 0 wh
   pub seam : (f : ℕ) → left ≤ suc f → scan w (suc f) a (x ++ replicate (left - length x) 255) ≡ record { items = es; end = a + length x }
 
 -- an item is one
-pub item-piece : (w left a : ℕ) (new : List ℕ) (i : Item) → 0 < w → Bytes new → size w (i .len) ≡ length new → length new ≤ left
+unfoldable pub item-piece : (w left a : ℕ) (new : List ℕ) (i : Item) → 0 < w → Bytes new → size w (i .len) ≡ length new → length new ≤ left
     → ((rest : List ℕ) → read w (new ++ rest) ≡ item i) → Piece w left a new (record { at = a; it = i } ∷ [])
 item-piece w left a new i hw b sz h reads = record {
   x = new;

@@ -23,7 +23,7 @@ use Rattle.rules.specs.Remove.{Which, every, only, remove, eraseAll}
 use Rattle.rules.specs.Walk.{walkFirst, walkStart, walkStep, cursorAt, Walk, Step, ended, stepped}
 use Rattle.rules.specs.Calls.{Call, fetchItem, fetchPlain, storeItem, removeItem, removeAllItems, eraseAllPages, fetchAllItems, nextItem, Lent, Told, noCursor, startCursor, stepAnswer, geoOf, tell, called}
 use Rattle.rules.specs.List.{Pair, inList, dropKey, listAfter}
-use Rattle.laws.specs.Geometry.{accepted, accepts, Accepted, Fit}
+use Rattle.laws.specs.Geometry.{accepted, accepts, Accepted, Fit, zero-done, refusal-low}
 use Rattle.theory.specs.Keep.{itOf}
 use Rattle.theory.specs.Stored.{Fitting, StoreRes, stored, full}
 use Rattle.theory.specs.Sane.{Sane, good-sane, other-cache, blank-newest, no-bad}
@@ -36,7 +36,7 @@ use Rattle.theory.specs.Latest.{begun, start-res, walkedLog, lists-of, not-corr
 use Rattle.promises.specs.Promise.{Given, refused, entriesOf, runOf, Shows, Right, again, StepRight}
 use Rattle.promises.specs.Rule.{store-rule, store-erases}
 use Rattle.promises.specs.Walks.{walk-one, walked, step-rule, step-ends}
-use Rattle.promises.specs.Behind.{called-runs, either, run-size, zero-done, refusal-low}
+use Rattle.promises.specs.Behind.{called-runs, either, run-size}
 
 shows-clean : (img : List ℕ) (a : Answer) (o : Option (List ℕ)) → Shows img a o → a ≢ Corrupted
 shows-clean img a none h e = let z = ap number (sym h ∙ e) in omega arith

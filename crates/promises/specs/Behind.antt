@@ -1,60 +1,21 @@
 -- A public call is its run behind its refusals: what a refusal leaves, what a run hands back, how many entries the cache has, and the steps.
 use mathlib.Core.Path.{_≡_, refl, sym, ap, _∙_, subst}
 use mathlib.Core.Logic.{_≢_}
-use Prim.Native.Nat.{ℕ, _+_, _*_, _/_, _%_, _≤_}
-use mathlib.Core.Bool.{Bool, true, false, not}
+use Prim.Native.Nat.{ℕ, _≤_}
+use mathlib.Core.Bool.{Bool, true, false}
 use lib.ListN.{length, take, drop, length-append, take-append-drop}
-use lib.Dec.{eqb, ltb}
-use native.Mathlib.Omega.{arith}
 use borrow.Author.Tests.{eqb-true, eqb-false, ne-eqb}
-use Rattle.rules.specs.declared.{Geo.Geo, Cursor.Cursor, Answer.Answer, Answer.the-variants.Done, Answer.the-variants.EndRangeNotAtPageBoundary, Answer.the-variants.RangeTooSmall, Answer.the-variants.PagesTooSmall, Answer.the-variants.Geometry, Answer.the-variants.CacheSize, Answer.the-variants.ItemTooBig}
-use Rattle.rules.specs.Bytes.{pick, replay}
-use Rattle.rules.specs.Answers.{number, isNo, dataLimit, refusal}
+use Rattle.rules.specs.declared.{Geo.Geo, Cursor.Cursor, Answer.the-variants.Done}
+use Rattle.rules.specs.Bytes.{replay}
+use Rattle.rules.specs.Answers.{number, isNo, refusal}
 use Rattle.rules.specs.Runs.{St, Out}
 use Rattle.rules.specs.Remove.{every, only}
 use Rattle.rules.specs.Walk.{walkStep}
 use Rattle.rules.specs.Calls.{Call, fetchItem, fetchPlain, storeItem, removeItem, removeAllItems, eraseAllPages, fetchAllItems, nextItem, Lent, Told, noCursor, startCursor, stepCursor, geoOf, tell, behind, called}
+use Rattle.laws.specs.Geometry.{zero-done, refusal-low}
 use Rattle.laws.specs.Plays.{fetch-plays, store-plays, remove-plays, erase-plays, start-plays}
 use Rattle.theory.specs.Sizes.{fetch-size, store-size, remove-size, erase-size, start-size}
 use Rattle.promises.specs.Promise.{refusalOf, entriesOf, runOf, worksOn, refused, valueOf}
-
--- ---- a refusal with number 0 is none
-
-picked : (b : Bool) (x r : Answer) → number x ≢ 0 → (number r ≡ 0 → r ≡ Done) → number (pick b x r) ≡ 0 → pick b x r ≡ Done
-picked true x r n h e = absurd (n e)
-picked false x r n h e = h e
-
-pub zero-done : (w E len m v : ℕ) → number (refusal w E len m v) ≡ 0 → refusal w E len m v ≡ Done
-unfolding refusal
-zero-done w E len m v =
-    picked (eqb E 0) PagesTooSmall _ (λ z. absurd (omega arith))
-    (picked (not (eqb (len % E) 0)) EndRangeNotAtPageBoundary _ (λ z. absurd (omega arith))
-    (picked (ltb len (2 * E)) RangeTooSmall _ (λ z. absurd (omega arith))
-    (picked (ltb E (3 * w + 8)) PagesTooSmall _ (λ z. absurd (omega arith))
-    (picked (not (eqb (E % w) 0)) Geometry _ (λ z. absurd (omega arith))
-    (picked (ltb 32768 E) Geometry _ (λ z. absurd (omega arith))
-    (picked (ltb 256 (len / E)) Geometry _ (λ z. absurd (omega arith))
-    (picked (ltb 32 m) CacheSize _ (λ z. absurd (omega arith))
-    (picked (ltb (dataLimit w E) (4 + v)) ItemTooBig Done (λ z. absurd (omega arith)) (λ z. refl)))))))))
-
--- and its number is at most 6
-
-low : (b : Bool) (x r : Answer) → number x ≤ 6 → number r ≤ 6 → number (pick b x r) ≤ 6
-low true x r h k = h
-low false x r h k = k
-
-pub refusal-low : (w E len m v : ℕ) → number (refusal w E len m v) ≤ 6
-unfolding refusal
-refusal-low w E len m v =
-    low (eqb E 0) PagesTooSmall _ (omega arith)
-    (low (not (eqb (len % E) 0)) EndRangeNotAtPageBoundary _ (omega arith)
-    (low (ltb len (2 * E)) RangeTooSmall _ (omega arith)
-    (low (ltb E (3 * w + 8)) PagesTooSmall _ (omega arith)
-    (low (not (eqb (E % w) 0)) Geometry _ (omega arith)
-    (low (ltb 32768 E) Geometry _ (omega arith)
-    (low (ltb 256 (len / E)) Geometry _ (omega arith)
-    (low (ltb 32 m) CacheSize _ (omega arith)
-    (low (ltb (dataLimit w E) (4 + v)) ItemTooBig Done (omega arith) (omega arith)))))))))
 
 module _ (w E m v : ℕ) (b : Lent) (f : Geo → St → Out) (c : Geo → Out → Cursor) (c₀ : Cursor) where
   behind-yes : refusal w E (length (b .image)) m v ≡ Done

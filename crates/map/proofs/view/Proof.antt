@@ -1,4 +1,4 @@
--- `fetch::view` meets its contract: the part lies in the image, or it does not.
+-- `map::view` meets its contract: the part lies in the image, or it does not.
 use Prim.Native.Nat.{_+_, _-_, _<_}
 use mathlib.Core.Path.{_≡_}
 use lib.ListN.{length}
@@ -7,8 +7,8 @@ use mathlib.Core.Logic.{⊎-elim}
 use borrow.Author.Tests.{le-leb, lt-leb}
 use native.Mathlib.Omega.{arith}
 use borrow.Author.Needs.{needs}
-use Rattle.fetch.proofs.view.Statement.{statement}
-use Rattle.fetch.proofs.view.Tie as tie
+use Rattle.map.proofs.view.Statement.{statement}
+use Rattle.map.proofs.view.Tie as tie
 
 returns : tie.Need-returns
 unfolding view

@@ -1,0 +1,2 @@
+-- refusals and runs
+pub mod Laws
