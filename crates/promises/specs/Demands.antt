@@ -6,11 +6,11 @@ use Prim.Native.Nat.{ℕ, _+_, _≤_}
 use mathlib.Core.List.{List, [], _∷_}
 use lib.ListN.{length, replicate, length-replicate}
 use native.Mathlib.Omega.{arith}
-use Rattle.rules.specs.declared.{Geo.Geo, Answer.Answer, Answer.the-variants.Done, Answer.the-variants.FullStorage, Answer.the-variants.Corrupted, Cursor.Cursor}
+use Rattle.rules.specs.declared.{Geo.Geo, Answer.Answer, Answer.the-variants.Done, Answer.the-variants.Corrupted, Cursor.Cursor}
 use Rattle.rules.specs.Bytes.{replay, Bytes}
 use Rattle.rules.specs.Items.{Entry, size}
 use Rattle.rules.specs.Pages.{ringUp}
-use Rattle.rules.specs.Answers.{refusal}
+use Rattle.rules.specs.Answers.{number, refusal}
 use Rattle.rules.specs.Runs.{St}
 use Rattle.rules.specs.Store.{repair}
 use Rattle.rules.specs.Walk.{Walk, walkFirst}
@@ -22,7 +22,7 @@ use Rattle.laws.specs.ByteLaws.{Bytes-replicate}
 use Rattle.laws.specs.Geometry.{accepted, held-of, Fit}
 use Rattle.laws.specs.Rings.{logOf}
 use Rattle.laws.specs.Plays.{repair-plays}
-use Rattle.theory.specs.Sane.{blank-image}
+use Rattle.theory.specs.Sane.{not-eight, is-seven, blank-image}
 use Rattle.theory.specs.Latest.{listOf}
 use Rattle.promises.specs.Promise.{Given, AllGiven, fresh, seen, refusalOf, refused, runOf, worksOn, FullRule, Single, Follows, WalkRight, StepRight}
 use Rattle.promises.specs.Singles.{single-after, latest-single}
@@ -34,9 +34,9 @@ use Rattle.promises.specs.Sequences.{follows, same-seen, begins}
 -- ---- DEMAND 2. "no call on a sound image answers Corrupted, and each leaves the image sound": any sequence of calls, from any sound image, with
 -- any lent cache, right or wrong, of any size.
 
-pub never-corrupted : (w E m : ℕ) (b : Lent) → SoundImage w E (b .image) → (cs : List Call) → AllGiven cs → All (λ r. r .answer ≢ Corrupted) (seen (called w E m) cs b)
+pub never-corrupted : (w E m : ℕ) (b : Lent) → SoundImage w E (b .image) → (cs : List Call) → AllGiven cs → All (λ r. number (r .answer) ≢ 8) (seen (called w E m) cs b)
 never-corrupted w E m b S cs g =
-    All-map (λ r. (r .answer ≢ Corrupted) × SoundImage w E (r .image)) (λ r. r .answer ≢ Corrupted) (seen (called w E m) cs b) (λ r x. x .0) (all-kept w E m cs g b S)
+    All-map (λ r. (r .answer ≢ Corrupted) × SoundImage w E (r .image)) (λ r. number (r .answer) ≢ 8) (seen (called w E m) cs b) (λ r x. not-eight (r .answer) (x .0)) (all-kept w E m cs g b S)
 
 pub stays-sound : (w E m : ℕ) (b : Lent) → SoundImage w E (b .image) → (cs : List Call) → AllGiven cs → All (λ r. SoundImage w E (r .image)) (seen (called w E m) cs b)
 stays-sound w E m b S cs g =
@@ -58,13 +58,15 @@ module _ (w E : ℕ) (img : List ℕ) (S : SoundImage w E img) where
   -- sizes of its newest items and the new item add to more than the data area."
 
   pub full-storage : (m : ℕ) → m ≤ 32 → (k : ℕ) (v : List ℕ) → Given (storeItem k v) → refusal w E (length img) m (length v) ≡ Done
-      → (called w E m (storeItem k v) (fresh img) .answer ≡ FullStorage) ↔ FullRule G (size w (4 + length v)) img
-  full-storage m h k v g e = listed m h (storeItem k v ∷ []) (g, tt) .0 .right .exact e
+      → (number (called w E m (storeItem k v) (fresh img) .answer) ≡ 7) ↔ FullRule G (size w (4 + length v)) img
+  full-storage m h k v g e =
+      let x = listed m h (storeItem k v ∷ []) (g, tt) .0 .right .exact e in
+      (λ q. x .0 (is-seven _ q), λ f. ap number (x .1 f))
 
   -- "After n turns": each of them erased a page
   pub full-erases-n : (m : ℕ) → m ≤ 32 → (k : ℕ) (v : List ℕ) → Given (storeItem k v) → refusal w E (length img) m (length v) ≡ Done
-      → called w E m (storeItem k v) (fresh img) .answer ≡ FullStorage → called w E m (storeItem k v) (fresh img) .erased ≡ G .pages
-  full-erases-n m h k v g e = listed m h (storeItem k v ∷ []) (g, tt) .0 .right .turns e
+      → number (called w E m (storeItem k v) (fresh img) .answer) ≡ 7 → called w E m (storeItem k v) (fresh img) .erased ≡ G .pages
+  full-erases-n m h k v g e q = listed m h (storeItem k v ∷ []) (g, tt) .0 .right .turns e (is-seven _ q)
 
   -- ---- DEMAND 2. "From the page after the PartialOpen one .. all Present items in ring order, older versions too": a walk starts, and the whole
   -- walk from there lists these and no others.

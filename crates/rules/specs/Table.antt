@@ -94,6 +94,14 @@ noted =
     let hits = cached64 (fetchItem 1) (again two) in
     cached64 (storeItem 3 []) (again hits)
 
+-- keys stored one after the other, with empty values
+stores : List ℕ → Lent
+stores ks = more ks (blank 128)
+  where
+    more : List ℕ → Lent → Lent
+    more [] l = l
+    more (k ∷ ks) l = more ks (again (call64 (storeItem k []) l))
+
 -- a walk over key 1 value AA: its start, its step, its end
 walk : Told
 walk = call32 fetchAllItems (again storedAA)
@@ -106,6 +114,13 @@ last : Told
 unfolding step
 last = call32 (nextItem (step .cursor)) (again step)
 
+-- where the values of keys 1, 2 and 3 stand
+abbrev values : Lent → List ℕ
+values l = placeOf 1 ++ placeOf 2 ++ placeOf 3
+  where
+    placeOf : ℕ → List ℕ
+    placeOf k = take 1 (paper (call64 (fetchItem k) l .answer) .values)
+
 -- an image whose first word is this, else blank
 abbrev marks : List ℕ → List ℕ
 marks ws = ws ++ replicate 60 0xFF
@@ -113,7 +128,7 @@ marks ws = ws ++ replicate 60 0xFF
 -- ---- the table
 
 pub table : List Bool
-unfolding G32 storedAA five noted walk step last
+unfolding G32 storedAA five noted stores walk step last
 table =
     -- (P) E 20: image 40 accepted, 39 no. 1, 20 no. 2. E 16, image 32: no. 3. E 22, image 44: no. 4.
     eqb (number (refusal 4 20 40 0 0)) 0
@@ -139,6 +154,10 @@ table =
     ∷ eqList (keys (noted .cache)) (3 ∷ 2 ∷ replicate 30 0)
     -- (P) Store, remove, fetch: none.
     ∷ says (call32 (fetchItem 1) (again (call32 (removeItem 1) (again storedAA))) .answer) 0 []
+    -- a migration copies the newest item of each key: keys 1 and 2 of a full page stand before key 3
+    ∷ eqList (values (stores (1 ∷ 2 ∷ 1 ∷ 1 ∷ 3 ∷ []))) (92 ∷ 80 ∷ 104 ∷ [])
+    -- a cached place that holds the key answers, though the item is older
+    ∷ says (called 4 64 1 (fetchItem 1) (record { image = stores (1 ∷ 1 ∷ []) .image; cache = record { key = 1; place = 4 } ∷ [] }) .answer) 0 (16 ∷ 0 ∷ [])
     -- a walk lists the item and hands the cursor back at its end
     ∷ says (step .answer) 0 (1 ∷ 16 ∷ 1 ∷ [])
     ∷ both (says (last .answer) 0 []) (eqb (last .cursor .place) (step .cursor .place))
@@ -152,5 +171,5 @@ table =
     ∷ []
 
 pub table-holds : all table ≡ true
-unfolding table G32 storedAA five noted walk step last zerosIn zeroBits roundUp splice program erase readBy read size pad encode encodeData scan state scanOf ringUp ringDown note forget clear refusal on view newest hit fetchIn plainFetch migrateAll migrate rolled rollover turn turns eraseCorrupted mend repair autoRepair fetch store removeEntries removePages remove walkStart walkStep behind called
+unfolding table G32 storedAA five noted stores walk step last zerosIn zeroBits roundUp splice program erase readBy read size pad encode encodeData scan state scanOf ringUp ringDown note forget clear refusal on view newest hit fetchIn plainFetch migrateAll migrate rolled rollover turn turns eraseCorrupted mend repair autoRepair fetch store removeEntries removePages remove walkStart walkStep behind called
 table-holds = refl

@@ -44,6 +44,20 @@ not-eight ItemTooBig n e = omega arith
 not-eight FullStorage n e = omega arith
 not-eight Corrupted n e = n refl
 
+pub is-seven : (a : Answer) → number a ≡ 7 → a ≡ FullStorage
+is-seven Done e = absurd (omega arith)
+is-seven (Value x l) e = absurd (omega arith)
+is-seven None e = absurd (omega arith)
+is-seven (Item k x l) e = absurd (omega arith)
+is-seven EndRangeNotAtPageBoundary e = absurd (omega arith)
+is-seven RangeTooSmall e = absurd (omega arith)
+is-seven PagesTooSmall e = absurd (omega arith)
+is-seven Geometry e = absurd (omega arith)
+is-seven CacheSize e = absurd (omega arith)
+is-seven ItemTooBig e = absurd (omega arith)
+is-seven FullStorage e = refl
+is-seven Corrupted e = absurd (omega arith)
+
 module _ (G : Geo) where
   pub first-none : (t : PageState) (img : List ℕ) (a m : ℕ) → ((q : ℕ) → a ≤ q → q < a + m → same t (state G img q) ≡ false) → firstWith G t img (upFrom a m) ≡ G .pages
   first-none t img a zero h = refl
