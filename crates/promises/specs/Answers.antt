@@ -26,7 +26,7 @@ use Rattle.rules.specs.List.{Pair, inList, dropKey, listAfter}
 use Rattle.laws.specs.Geometry.{accepted, accepts, Accepted, Fit, zero-done, refusal-low}
 use Rattle.theory.specs.Keep.{itOf}
 use Rattle.theory.specs.Stored.{Fitting, StoreRes, stored, full}
-use Rattle.theory.specs.Sane.{Sane, good-sane, other-cache, blank-newest, no-bad}
+use Rattle.theory.specs.Sane.{done-clean, store-clean, Sane, good-sane, other-cache, blank-newest, no-bad}
 use Rattle.theory.specs.Fetching.{fetch-sane}
 use Rattle.theory.specs.Storing.{st, store-res}
 use Rattle.theory.specs.Listed.{valOf, drop-same, drop-other, Lists, store-list, kept-list}
@@ -41,9 +41,6 @@ use Rattle.promises.specs.Behind.{called-runs, either, run-size}
 shows-clean : (img : List ℕ) (a : Answer) (o : Option (List ℕ)) → Shows img a o → a ≢ Corrupted
 shows-clean img a none h e = let z = ap number (sym h ∙ e) in omega arith
 shows-clean img a (some v) h e = let z = ap number (sym (h .2) ∙ e) in omega arith
-
-pub done-clean : (a : Answer) → a ≡ Done → a ≢ Corrupted
-done-clean a h e = let z = ap number (sym h ∙ e) in omega arith
 
 pub step-clean : (s : Step) → stepAnswer s ≢ Corrupted
 step-clean ended e = let z = ap number e in omega arith
@@ -197,10 +194,6 @@ module _ (w E m : ℕ) where
             small : refusal w E (length img) m (length v) ≢ Corrupted
             small y = let z = ap number y in omega (arith, refusal-low w E (length img) m (length v))
 
-        clean : (a : Answer) → (a ≡ Done) ⊎ (a ≡ FullStorage) → a ≢ Corrupted
-        clean a (inl e) y = let z = ap number (sym e ∙ y) in omega arith
-        clean a (inr e) y = let z = ap number (sym e ∙ y) in omega arith
-
         on : refusal w E (length img) m (length v) ≡ Done → Serves (storeItem k v) b l (tell m b (λ o. noCursor) (store G k v s₀))
         on e =
             let a = accepted w E (length img) m (length v) e in
@@ -214,7 +207,7 @@ module _ (w E m : ℕ) where
                 exact = λ n. store-rule G img k v ca s f (a .fits);
                 turns = λ n. store-erases G img k v ca s f (a .fits);
               };
-              clean = clean (o .ans) (x .2);
+              clean = store-clean (o .ans) (x .2);
               ready = next (o .st .img) (o .st .cache) (listAfter (storeItem k v) (o .ans) l) (entries (storeItem k v) refl) (x .0) (x .1);
             }
 

@@ -1,11 +1,11 @@
 -- Each call on a sound image, with any lent cache and any size: not Corrupted, and the image stays sound; so does a sequence.
 use mathlib.Core.Path.{_≡_, refl, sym, ap, _∙_, subst}
-use mathlib.Core.Logic.{_≢_, _⊎_, inl, inr}
+use mathlib.Core.Logic.{_≢_}
 use Prim.Native.Nat.{ℕ}
 use mathlib.Core.List.{List, [], _∷_}
 use lib.ListN.{length, take}
 use native.Mathlib.Omega.{arith}
-use Rattle.rules.specs.declared.{Geo.Geo, Answer.Answer, Answer.the-variants.Done, Answer.the-variants.Corrupted, Answer.the-variants.FullStorage}
+use Rattle.rules.specs.declared.{Geo.Geo, Answer.the-variants.Done, Answer.the-variants.Corrupted}
 use Rattle.rules.specs.Cache.{Cache}
 use Rattle.rules.specs.Answers.{number, refusal}
 use Rattle.rules.specs.Runs.{End, final}
@@ -15,13 +15,13 @@ use Rattle.rules.specs.Walk.{walkStep}
 use Rattle.rules.specs.Calls.{Call, fetchItem, fetchPlain, storeItem, removeItem, removeAllItems, eraseAllPages, fetchAllItems, nextItem, Lent, geoOf, called}
 use Rattle.rules.specs.Sound.{All, Sound, usedRing, SoundImage}
 use Rattle.laws.specs.Geometry.{Fit, accepted, held-of}
-use Rattle.theory.specs.Sane.{no-bad}
+use Rattle.theory.specs.Sane.{done-clean, store-clean, found-clean, no-bad}
 use Rattle.theory.specs.Removing.{remove-is, rid-of, erase-res}
 use Rattle.theory.specs.Latest.{not-corrupt, start-res}
-use Rattle.theory.specs.AnyCache.{found-clean, fetch-any, store-any}
+use Rattle.theory.specs.AnyCache.{fetch-any, store-any}
 use Rattle.promises.specs.Promise.{Given, AllGiven, again, seen, refusalOf, runOf, worksOn}
 use Rattle.promises.specs.Behind.{either, low-of}
-use Rattle.promises.specs.Answers.{fitting, step-clean, done-clean}
+use Rattle.promises.specs.Answers.{fitting, step-clean}
 
 pub fit-of : (w E : ℕ) (img : List ℕ) → SoundImage w E img → Fit (geoOf w E (length img)) img
 fit-of w E img S = record { held = held-of w E (length img) 0 0 (S .word) (accepted w E (length img) 0 0 (S .accepted)); bytes = S .bytes }
@@ -51,10 +51,6 @@ module _ (w E m : ℕ) (b : Lent) (S : SoundImage w E (b .image)) where
   Kept : End → Type 0
   Kept r = (r .ans ≢ Corrupted) × SoundImage w E (r .st .img)
 
-  ends : (a : Answer) → (a ≡ Done) ⊎ (a ≡ FullStorage) → a ≢ Corrupted
-  ends a (inl e) y = done-clean a e y
-  ends a (inr e) y = let z = ap number (sym e ∙ y) in omega arith
-
   gone : (t : Which) (ca : Cache) → Kept (final (remove G t (record { img = img; cache = ca; erased = 0 })))
   unfolding Kept
   gone t ca =
@@ -68,7 +64,7 @@ module _ (w E m : ℕ) (b : Lent) (S : SoundImage w E (b .image)) where
   run-kept (storeItem k v) g e =
       let r = store-any G k v (fitting w E (length img) m k v g (accepted w E (length img) m (length v) e)) img (take m (b .cache)) 0 ok (S .sound) in
       let u = r .used in
-      (ends _ (r .ends), again-sound _ (u .fit) (usedRing (u .p) (u .o) (u .os) (u .cs) (u .ring)))
+      (store-clean _ (r .ends), again-sound _ (u .fit) (usedRing (u .p) (u .o) (u .os) (u .cs) (u .ring)))
   run-kept (removeItem k) g e = gone (only k) (take m (b .cache))
   run-kept removeAllItems g e = gone every (take m (b .cache))
   run-kept eraseAllPages g e =

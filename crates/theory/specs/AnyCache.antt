@@ -1,5 +1,5 @@
 -- Any sound image with any cache at all: a fetch and a store are not Corrupted, and the image stays sound.
-use mathlib.Core.Path.{_≡_, refl, sym, ap, _∙_, subst}
+use mathlib.Core.Path.{_≡_, refl, sym, subst}
 use mathlib.Core.Logic.{_≢_, _⊎_, inl, inr}
 use Prim.Native.Nat.{ℕ, zero, suc, _+_, _-_}
 use mathlib.Core.Bool.{Bool, true, false}
@@ -7,14 +7,13 @@ use mathlib.Core.List.{List, []}
 use lib.Dec.{eqb, leb}
 use native.Mathlib.Omega.{arith}
 use borrow.Author.Tests.{leb-true, leb-false}
-use Rattle.rules.specs.declared.{Geo.Geo, Answer.the-variants.Done, Answer.the-variants.FullStorage, Answer.the-variants.Corrupted, Answer.Answer}
+use Rattle.rules.specs.declared.{Geo.Geo, Answer.the-variants.Done, Answer.the-variants.FullStorage, Answer.the-variants.Corrupted}
 use Rattle.rules.specs.Bytes.{pick}
 use Rattle.rules.specs.Items.{Entry}
 use Rattle.rules.specs.Pages.{endAt, upFrom}
 use Rattle.rules.specs.Cache.{Cache, lookup}
-use Rattle.rules.specs.Answers.{number}
 use Rattle.rules.specs.Runs.{St, End, final}
-use Rattle.rules.specs.Fetch.{Found, corrupt, missing, found, newest, hit, noteFound, fullFetch, onHit, fetchIn, runFetch, answerOf, servedBy}
+use Rattle.rules.specs.Fetch.{Found, corrupt, missing, found, newest, hit, noteFound, fullFetch, onHit, fetchIn, runFetch, servedBy}
 use Rattle.rules.specs.Store.{fetch, fetchBy, turns, rollover, store}
 use Rattle.rules.specs.Sound.{Sound, blankRing, usedRing}
 use Rattle.laws.specs.Geometry.{Fit}
@@ -22,17 +21,12 @@ use Rattle.laws.specs.Touch.{markStart, markEnd, start-marked}
 use Rattle.laws.specs.Plays.{fetch-img}
 use Rattle.theory.specs.Rollover.{Used, rollover-done}
 use Rattle.theory.specs.Stored.{Fitting, spot, need, turns-write, turns-roll, put-it}
-use Rattle.theory.specs.Sane.{no-repair, marked-ring}
+use Rattle.theory.specs.Sane.{store-clean, found-clean, no-repair, marked-ring}
 use Rattle.theory.specs.Storing.{blank-turns}
 use Rattle.theory.specs.Latest.{not-corrupt}
 
 some-found : (e : Entry) → found e ≢ corrupt
 some-found e q = let z : _≡_ {A = ℕ} 0 1 = cc in omega arith
-
-pub found-clean : (r : Found) → r ≢ corrupt → answerOf r ≢ Corrupted
-found-clean corrupt n e = n refl
-found-clean missing n e = let z = ap number e in omega arith
-found-clean (found x) n e = let z = ap number e in omega arith
 
 module _ (G : Geo) (img : List ℕ) (ca : Cache) (er : ℕ) where
   abbrev s₀ : St
@@ -105,8 +99,4 @@ module _ (G : Geo) (k : ℕ) (v : List ℕ) (f : Fitting G k v) where
   unfolding store
   store-any img ca er ok s =
       let T = all-turns img ca er ok s in
-      rw (no-repair G (turns G (G .pages) k v) img ca er ok s (bad (turns G (G .pages) k v (record { img = img; cache = ca; erased = er }) .ans) (T .ends))) T
-    where
-      bad : (a : Answer) → (a ≡ Done) ⊎ (a ≡ FullStorage) → a ≢ Corrupted
-      bad a (inl e) y = let z = ap number (sym e ∙ y) in omega arith
-      bad a (inr e) y = let z = ap number (sym e ∙ y) in omega arith
+      rw (no-repair G (turns G (G .pages) k v) img ca er ok s (store-clean (turns G (G .pages) k v (record { img = img; cache = ca; erased = er }) .ans) (T .ends))) T

@@ -14,14 +14,14 @@ use Rattle.rules.specs.Pages.{itemsOf}
 use Rattle.rules.specs.Cache.{Cache, lookup}
 use Rattle.rules.specs.Answers.{number}
 use Rattle.rules.specs.Runs.{St, End, final, Out, out}
-use Rattle.rules.specs.Fetch.{Found, corrupt, missing, found, newest, hit, fetchIn, runFetch, answerOf}
+use Rattle.rules.specs.Fetch.{corrupt, missing, found, newest, hit, fetchIn, runFetch, answerOf}
 use Rattle.rules.specs.Store.{autoRepair, fetch, fetchBy}
 use Rattle.rules.specs.Sound.{usedRing}
 use Rattle.laws.specs.Rings.{newest-is, logOf}
 use Rattle.theory.specs.Cached.{Valid, Fetched, fetch-cached, newest-hit}
 use Rattle.theory.specs.Migrate.{last-not-corrupt}
 use Rattle.theory.specs.Stored.{full, Good, StoreRes, stored}
-use Rattle.theory.specs.Sane.{no-repair, Sane, sane-cases, Blank, blank-newest, blank-cache}
+use Rattle.theory.specs.Sane.{found-clean, no-repair, Sane, sane-cases, Blank, blank-newest, blank-cache}
 
 module _ (G : Geo) where
   pub not-corrupted : (img : List ℕ) (k : ℕ) (v : List ℕ) (r : End) → StoreRes G img k v r → r .ans ≢ Corrupted
@@ -47,14 +47,9 @@ module _ (G : Geo) where
       f : Fetched G img (g .fit) (g .p) (g .o ∷ g .os) (g .cs) (g .ring) k er (fetchIn G k s)
       f = fetch-cached G img (g .fit) (g .p) (g .o ∷ g .os) (g .cs) (g .ring) k ca er (g .valid)
 
-      answer-bad : (r : Found) → r ≢ corrupt → answerOf r ≢ Corrupted
-      answer-bad corrupt n e = n refl
-      answer-bad missing n e = let z = ap number e in omega arith
-      answer-bad (found x) n e = let z = ap number e in omega arith
-
       searched : FetchRes img er k (final (autoRepair G (runFetch G k) s))
       searched =
-          rw (no-repair G (runFetch G k) img ca er (g .fit) (usedRing (g .p) (g .o) (g .os) (g .cs) (g .ring)) (λ e. answer-bad (newest G img k) (not-bad img ca g k) (ap answerOf (sym (f .res-is)) ∙ e)))
+          rw (no-repair G (runFetch G k) img ca er (g .fit) (usedRing (g .p) (g .o) (g .os) (g .cs) (g .ring)) (λ e. found-clean (newest G img k) (not-bad img ca g k) (ap answerOf (sym (f .res-is)) ∙ e)))
           (record { ans-is = ap answerOf (f .res-is); img-is = f .img-is; er-is = f .erased-is; valid = f .valid })
 
       hits : (e : Entry) → newest G img k ≡ found e → e .at ≡ lookup k ca → FetchRes img er k (final (fetchBy G k s (hit G img k (lookup k ca))))

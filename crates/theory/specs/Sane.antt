@@ -14,7 +14,7 @@ use Rattle.rules.specs.Pages.{isPage, state, scanOf, itemsOf, area, areaLen, da
 use Rattle.rules.specs.Cache.{Cache, emptyPointer, lookup}
 use Rattle.rules.specs.Answers.{number}
 use Rattle.rules.specs.Runs.{St, Out, end, final}
-use Rattle.rules.specs.Fetch.{missing, found, newest}
+use Rattle.rules.specs.Fetch.{Found, corrupt, missing, found, newest, answerOf}
 use Rattle.rules.specs.Store.{autoRepair, turn}
 use Rattle.rules.specs.Sound.{All, Ring, Sound, blankRing, ringRest, Unused, usedRing}
 use Rattle.laws.specs.Lists.{All-append, All-map}
@@ -30,6 +30,19 @@ use Rattle.theory.specs.Cached.{Valid, valid-same}
 use Rattle.theory.specs.Stored.{Good}
 
 -- number 8 is Corrupted's alone
+-- answers that are not Corrupted: Done, a store's, a find's
+pub done-clean : (a : Answer) → a ≡ Done → a ≢ Corrupted
+done-clean a h e = let z = ap number (sym h ∙ e) in omega arith
+
+pub store-clean : (a : Answer) → (a ≡ Done) ⊎ (a ≡ FullStorage) → a ≢ Corrupted
+store-clean a (inl h) e = done-clean a h e
+store-clean a (inr h) e = let z = ap number (sym h ∙ e) in omega arith
+
+pub found-clean : (r : Found) → r ≢ corrupt → answerOf r ≢ Corrupted
+found-clean corrupt n e = n refl
+found-clean missing n e = let z = ap number e in omega arith
+found-clean (found x) n e = let z = ap number e in omega arith
+
 pub not-eight : (a : Answer) → a ≢ Corrupted → number a ≢ 8
 not-eight Done n e = omega arith
 not-eight (Value x l) n e = omega arith
