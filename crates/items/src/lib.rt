@@ -65,10 +65,10 @@ pub fn kind(s: &[u8], len: usize) -> Kind
     if check != words::zeros(&s[8..8 + len]) + 1 {
         return Kind::Damaged;
     }
-    if len < 4 {
-        return Kind::Damaged;
+    if 4 <= len {
+        return Kind::Present;
     }
-    Kind::Present
+    Kind::Damaged
 }
 
 // Is it Present? Then it has a key.

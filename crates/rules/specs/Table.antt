@@ -121,6 +121,10 @@ values l = placeOf 1 ++ placeOf 2 ++ placeOf 3
     placeOf : ℕ → List ℕ
     placeOf k = take 1 (paper (call64 (fetchItem k) l .answer) .values)
 
+-- page 0 with an item of the data bytes 01 00 00, whose check matches; page 1 blank
+abbrev three : List ℕ
+three = replicate 4 0x00 ++ 0x03 ∷ 0x00 ∷ 0xFC ∷ 0xFF ∷ 0x18 ∷ 0x00 ∷ 0x00 ∷ 0x00 ∷ 0x01 ∷ 0x00 ∷ 0x00 ∷ replicate 49 0xFF
+
 -- an image whose first word is this, else blank
 abbrev marks : List ℕ → List ℕ
 marks ws = ws ++ replicate 60 0xFF
@@ -164,6 +168,8 @@ table =
     -- a word of 15 zero bits is not marked, one of 16 is
     ∷ same Open (state G32 (marks (0x00 ∷ 0x01 ∷ 0xFF ∷ 0xFF ∷ [])) 0)
     ∷ same PartialOpen (state G32 (marks (0x00 ∷ 0x00 ∷ 0xFF ∷ 0xFF ∷ [])) 0)
+    -- an item of three data bytes is Damaged, so it has no key
+    ∷ says (call32 (fetchItem 1) (record { image = three; cache = [] }) .answer) 0 []
     -- a worn padding bit does not lose the item
     ∷ says (call32 (fetchItem 1) (record { image = pageAA 0xFE; cache = [] }) .answer) 0 (16 ∷ 1 ∷ [])
     -- a part that does not lie in the image is its empty start
