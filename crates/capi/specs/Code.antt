@@ -1,0 +1,136 @@
+-- What the C border takes and leaves, in words of 32 bits.
+use Prim.Native.Nat.{ℕ, _%_}
+use mathlib.Core.List.{List, [], _∷_, _++_}
+use lib.Dec.{eqb}
+use lib.ListN.{length, getD, take, drop}
+use Rattle.rules.specs.declared.{Cursor.Cursor, Answer.Answer}
+use Rattle.rules.specs.Bytes.{pick}
+use Rattle.rules.specs.Cache.{Pointer, Cache as Entries}
+use Rattle.rules.specs.Answers.{paper, number, isNo}
+use Rattle.rules.specs.Calls.{Told as Handed, Call, called, fetchPlain, fetchAllItems, nextItem}
+use Rattle.cache.specs.Code.{entries}
+use Rattle.capi.specs.declared.Shown.{Shown}
+
+-- a number's low 32 bits
+abbrev pub low : ℕ → ℕ
+low n = n % 4294967296
+
+-- ---- the cache: the keys and then the places
+
+-- the entries of 64 words
+abbrev pub entriesOf : List ℕ → Entries
+entriesOf ws = entries (take 32 ws) (drop 32 ws)
+
+-- the keys of entries, and the places
+abbrev pub keysOf : List Pointer → List ℕ
+keysOf [] = []
+keysOf (e ∷ es) = e .key ∷ keysOf es
+
+abbrev pub placesOf : List Pointer → List ℕ
+placesOf [] = []
+placesOf (e ∷ es) = e .place ∷ placesOf es
+
+-- the words of entries
+abbrev pub cacheWords : Entries → List ℕ
+cacheWords es = keysOf es ++ placesOf es
+
+-- ---- the cursor: first page, page, place
+
+-- the cursor of three words
+abbrev pub cursorOf : List ℕ → Cursor
+cursorOf ws = record { first = getD ws 0 0; page = getD ws 1 0; place = getD ws 2 0 }
+
+-- the words of a cursor
+abbrev pub cursorWords : Cursor → List ℕ
+cursorWords c = low (c .first) ∷ low (c .page) ∷ low (c .place) ∷ []
+
+-- ---- out: erased pages, kind, place, length, key
+
+-- an answer's values: none, place and length of a value, or key, place and length of an item
+abbrev pub shownBy : List ℕ → Shown
+shownBy (k ∷ p ∷ l ∷ vs) = record { kind = 1; place = p; len = l; key = k }
+shownBy (p ∷ l ∷ []) = record { kind = 1; place = p; len = l; key = 0 }
+shownBy (p ∷ []) = record { kind = 0; place = 0; len = 0; key = 0 }
+shownBy [] = record { kind = 0; place = 0; len = 0; key = 0 }
+
+abbrev pub shownOf : Answer → Shown
+shownOf a = shownBy (paper a .values)
+
+-- the five words of an answer with its erase count
+abbrev pub shownWords : ℕ → Shown → List ℕ
+shownWords e s = low e ∷ s .kind ∷ low (s .place) ∷ low (s .len) ∷ s .key ∷ []
+
+abbrev pub outWords : ℕ → Answer → List ℕ
+outWords e a = shownWords e (shownOf a)
+
+-- ---- a call at the border
+
+-- the number returned, and what is lent, after a call
+pub record Left : Type 0 where
+  pub no : ℕ
+  pub image : List ℕ
+  pub cache : List ℕ
+  pub out : List ℕ
+
+-- the same of a walk's start
+pub record StartLeft : Type 0 where
+  pub no : ℕ
+  pub image : List ℕ
+  pub cache : List ℕ
+  pub cursor : List ℕ
+  pub out : List ℕ
+
+-- of a plain fetch, which changes neither image nor cache
+pub record PlainLeft : Type 0 where
+  pub no : ℕ
+  pub out : List ℕ
+
+-- of a step, which changes neither image nor cache
+pub record StepLeft : Type 0 where
+  pub no : ℕ
+  pub cursor : List ℕ
+  pub out : List ℕ
+
+-- what a call told, in words
+abbrev pub handed : Handed → Left
+handed t = record { no = number (t .answer); image = t .image; cache = cacheWords (t .cache); out = outWords (t .erased) (t .answer) }
+
+abbrev pub plainHanded : Handed → PlainLeft
+plainHanded t = record { no = number (t .answer); out = outWords (t .erased) (t .answer) }
+
+-- the cursor's words after: written where the answer's number is 0
+abbrev pub cursorAfter : List ℕ → Answer → Cursor → List ℕ
+cursorAfter ws a c = pick (isNo 0 a) (cursorWords c) ws
+
+abbrev pub startHanded : List ℕ → Handed → StartLeft
+startHanded ws t = record { no = number (t .answer); image = t .image; cache = cacheWords (t .cache); cursor = cursorAfter ws (t .answer) (t .cursor); out = outWords (t .erased) (t .answer) }
+
+abbrev pub stepHanded : List ℕ → Handed → StepLeft
+stepHanded ws t = record { no = number (t .answer); cursor = cursorAfter ws (t .answer) (t .cursor); out = outWords (t .erased) (t .answer) }
+
+-- a call on pages of E bytes and a cache of m entries; 255 where a length is wrong, and nothing changes
+unfoldable pub border : ℕ → ℕ → Call → List ℕ → List ℕ → List ℕ → Left
+border E m call i c o =
+    let wrong : Left = record { no = 255; image = i; cache = c; out = o } in
+    let told = called 4 E m call (record { image = i; cache = entriesOf c }) in
+    pick (eqb (length c) 64) (pick (eqb (length o) 5) (handed told) wrong) wrong
+
+-- a plain fetch, which takes no cache
+unfoldable pub plainBorder : ℕ → ℕ → List ℕ → List ℕ → PlainLeft
+plainBorder E k i o =
+    let told = called 4 E 0 (fetchPlain k) (record { image = i; cache = [] }) in
+    pick (eqb (length o) 5) (plainHanded told) (record { no = 255; out = o })
+
+-- a walk's start
+unfoldable pub startBorder : ℕ → ℕ → List ℕ → List ℕ → List ℕ → List ℕ → StartLeft
+startBorder E m i c w o =
+    let wrong : StartLeft = record { no = 255; image = i; cache = c; cursor = w; out = o } in
+    let told = called 4 E m fetchAllItems (record { image = i; cache = entriesOf c }) in
+    pick (eqb (length c) 64) (pick (eqb (length w) 3) (pick (eqb (length o) 5) (startHanded w told) wrong) wrong) wrong
+
+-- a walk's step, which takes no cache
+unfoldable pub stepBorder : ℕ → List ℕ → List ℕ → List ℕ → StepLeft
+stepBorder E i w o =
+    let wrong : StepLeft = record { no = 255; cursor = w; out = o } in
+    let told = called 4 E 0 (nextItem (cursorOf w)) (record { image = i; cache = [] }) in
+    pick (eqb (length w) 3) (pick (eqb (length o) 5) (stepHanded w told) wrong) wrong

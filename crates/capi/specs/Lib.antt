@@ -1,0 +1,2 @@
+-- what the C border hands over, in words
+pub mod Code

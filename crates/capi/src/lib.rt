@@ -1,0 +1,378 @@
+// The C border over the public calls: numbers and slices only, and the answer's number back.
+ghost use mathlib.Core.Path.{_≡_};
+ghost use mathlib.Core.List.{[], _∷_};
+ghost use lib.ListN.{length};
+ghost use Rattle.rules.specs.Answers.{number};
+ghost use Rattle.rules.specs.Calls.{fetchItem, storeItem, removeItem, removeAllItems, eraseAllPages};
+ghost use Rattle.cache.specs.Code.{pointers};
+ghost use Rattle.capi.specs.Code.{low, entriesOf, cacheWords, cursorOf, cursorWords, cursorAfter, shownOf, outWords, border, plainBorder, startBorder, stepBorder};
+use cache::Cache;
+use map::Told;
+use rules::Answer;
+use rules::Cursor;
+
+// What an answer shows: its kind (0 nothing, 1 a value or an item), place, length and key.
+pub struct Shown {
+    pub kind: u32,
+    pub place: usize,
+    pub len: usize,
+    pub key: u32,
+}
+
+// 32 words as an array.
+fn half(words: &[u32]) -> [u32; 32]
+    requires { ⌜ length (now words) ≡ 32 ⌝ }
+    ensures { λ r. ⌜ r ≡ now (words .entry) ⌝ }
+{
+    let mut b: [u32; 32] = [0; 32];
+    let mut k: usize = 0;
+    while k < 32 {
+        b[k] = words[k];
+        k += 1;
+    }
+    b
+}
+
+// An array laid over 32 words.
+fn lay(words: &mut [u32], a: [u32; 32])
+    requires { ⌜ length (now words) ≡ 32 ⌝ }
+    ensures { λ _. ⌜ now (words .exit) ≡ a ⌝ }
+{
+    let mut k: usize = 0;
+    while k < 32 {
+        words[k] = a[k];
+        k += 1;
+    }
+}
+
+// The cache of 64 words, the keys and then the places.
+fn cache_of(words: &[u32]) -> Cache
+    requires { ⌜ length (now words) ≡ 64 ⌝ }
+    ensures { λ r. ⌜ pointers 32 r ≡ entriesOf (now (words .entry)) ⌝ }
+{
+    let keys = half(&words[0..32]);
+    let places = half(&words[32..64]);
+    Cache { keys, places }
+}
+
+// The cache back into its 64 words.
+fn put_cache(words: &mut [u32], cache: Cache)
+    requires { ⌜ length (now words) ≡ 64 ⌝ }
+    ensures { λ _. ⌜ now (words .exit) ≡ cacheWords (pointers 32 cache) ⌝ }
+{
+    let keys = cache.keys;
+    let places = cache.places;
+    lay(&mut words[0..32], keys);
+    lay(&mut words[32..64], places);
+}
+
+// A number's low 32 bits.
+fn low(n: usize) -> u32
+    ensures { λ r. ⌜ r ≡ low n ⌝ }
+{
+    (n % 4294967296) as u32
+}
+
+// What an answer shows.
+fn show(a: Answer) -> Shown
+    ensures { λ r. ⌜ r ≡ shownOf a ⌝ }
+{
+    let nothing = Shown {
+        kind: 0,
+        place: 0,
+        len: 0,
+        key: 0,
+    };
+    match a {
+        Answer::Done => nothing,
+        Answer::Value(place, len) => Shown {
+            kind: 1,
+            place,
+            len,
+            key: 0,
+        },
+        Answer::None => nothing,
+        Answer::Item(key, place, len) => Shown {
+            kind: 1,
+            place,
+            len,
+            key,
+        },
+        Answer::EndRangeNotAtPageBoundary => nothing,
+        Answer::RangeTooSmall => nothing,
+        Answer::PagesTooSmall => nothing,
+        Answer::Geometry => nothing,
+        Answer::CacheSize => nothing,
+        Answer::ItemTooBig => nothing,
+        Answer::FullStorage => nothing,
+        Answer::Corrupted => nothing,
+    }
+}
+
+// Five words, each set.
+fn set_five(out: &mut [u32], erased: u32, kind: u32, place: u32, len: u32, key: u32)
+    requires { ⌜ length (now out) ≡ 5 ⌝ }
+    ensures { λ _. ⌜ now (out .exit) ≡ erased ∷ kind ∷ place ∷ len ∷ key ∷ [] ⌝ }
+{
+    out[0] = erased;
+    out[1] = kind;
+    out[2] = place;
+    out[3] = len;
+    out[4] = key;
+}
+
+// An answer and its erase count in five words.
+fn put_out(out: &mut [u32], erased: usize, a: Answer)
+    requires { ⌜ length (now out) ≡ 5 ⌝ }
+    ensures { λ _. ⌜ now (out .exit) ≡ outWords erased a ⌝ }
+{
+    let s = show(a);
+    let count = low(erased);
+    let place = low(s.place);
+    let len = low(s.len);
+    set_five(out, count, s.kind, place, len, s.key);
+}
+
+// A word as a number.
+fn wide(word: u32) -> usize
+    ensures { λ r. ⌜ r ≡ word ⌝ }
+{
+    word as usize
+}
+
+// The cursor of three words.
+fn cursor_of(words: &[u32]) -> Cursor
+    requires { ⌜ length (now words) ≡ 3 ⌝ }
+    ensures { λ r. ⌜ r ≡ cursorOf (now (words .entry)) ⌝ }
+{
+    let first = wide(words[0]);
+    let page = wide(words[1]);
+    let place = wide(words[2]);
+    Cursor { first, page, place }
+}
+
+// Three words, each set.
+fn set_three(words: &mut [u32], first: u32, page: u32, place: u32)
+    requires { ⌜ length (now words) ≡ 3 ⌝ }
+    ensures { λ _. ⌜ now (words .exit) ≡ first ∷ page ∷ place ∷ [] ⌝ }
+{
+    words[0] = first;
+    words[1] = page;
+    words[2] = place;
+}
+
+// The cursor back into its three words.
+fn put_cursor(words: &mut [u32], c: Cursor)
+    requires { ⌜ length (now words) ≡ 3 ⌝ }
+    ensures { λ _. ⌜ now (words .exit) ≡ cursorWords c ⌝ }
+{
+    let first = low(c.first);
+    let page = low(c.page);
+    let place = low(c.place);
+    set_three(words, first, page, place);
+}
+
+// The cursor after an answer: written where its number is 0.
+fn keep_cursor(words: &mut [u32], a: Answer, c: Cursor)
+    requires { ⌜ length (now words) ≡ 3 ⌝ }
+    ensures { λ _. ⌜ now (words .exit) ≡ cursorAfter (now (words .entry)) a c ⌝ }
+{
+    if answer::number(a) == 0 {
+        put_cursor(words, c);
+    }
+}
+
+// What a call told, in the words of its cache and out, and its number.
+fn finish(cache: &mut [u32], out: &mut [u32], told: Told) -> u32
+    requires { ⌜ (length (now cache) ≡ 64) × (length (now out) ≡ 5) ⌝ }
+    ensures { λ r. ⌜ (r ≡ number (told .answer)) × (now (cache .exit) ≡ cacheWords (pointers 32 (told .cache))) × (now (out .exit) ≡ outWords (told .erased) (told .answer)) ⌝ }
+{
+    let c = told.cache;
+    let a = told.answer;
+    put_cache(cache, c);
+    put_out(out, told.erased, a);
+    answer::number(a)
+}
+
+// The newest value of a key, without a cache.
+#[no_mangle]
+pub extern "C" fn map_fetch_plain(img: &[u8], page: usize, key: u32, out: &mut [u32]) -> u32
+    ensures { λ r. ⌜ record { no = r; out = now (out .exit) } ≡ plainBorder page key (now (img .entry)) (now (out .entry)) ⌝ }
+{
+    if out.len() != 5 {
+        return 255;
+    }
+    let a = map::fetch_plain(img, page, key);
+    put_out(out, 0, a);
+    answer::number(a)
+}
+
+// The newest value of a key; a damaged image is repaired once.
+#[no_mangle]
+pub extern "C" fn map_fetch_item(
+    img: &mut [u8],
+    page: usize,
+    cache: &mut [u32],
+    size: usize,
+    key: u32,
+    out: &mut [u32],
+) -> u32
+    ensures { λ r. ⌜ record { no = r; image = now (img .exit); cache = now (cache .exit); out = now (out .exit) } ≡ border page size (fetchItem key) (now (img .entry)) (now (cache .entry)) (now (out .entry)) ⌝ }
+{
+    if cache.len() != 64 {
+        return 255;
+    }
+    if out.len() != 5 {
+        return 255;
+    }
+    let held = cache_of(cache);
+    let told = map::fetch_item(img, page, held, size, key);
+    finish(cache, out, told)
+}
+
+// A key gets a value.
+#[no_mangle]
+pub extern "C" fn map_store_item(
+    img: &mut [u8],
+    page: usize,
+    cache: &mut [u32],
+    size: usize,
+    key: u32,
+    value: &[u8],
+    out: &mut [u32],
+) -> u32
+    ensures { λ r. ⌜ record { no = r; image = now (img .exit); cache = now (cache .exit); out = now (out .exit) } ≡ border page size (storeItem key (now (value .entry))) (now (img .entry)) (now (cache .entry)) (now (out .entry)) ⌝ }
+{
+    if cache.len() != 64 {
+        return 255;
+    }
+    if out.len() != 5 {
+        return 255;
+    }
+    let held = cache_of(cache);
+    let told = map::store_item(img, page, held, size, key, value);
+    finish(cache, out, told)
+}
+
+// A key is removed, with all its values.
+#[no_mangle]
+pub extern "C" fn map_remove_item(
+    img: &mut [u8],
+    page: usize,
+    cache: &mut [u32],
+    size: usize,
+    key: u32,
+    out: &mut [u32],
+) -> u32
+    ensures { λ r. ⌜ record { no = r; image = now (img .exit); cache = now (cache .exit); out = now (out .exit) } ≡ border page size (removeItem key) (now (img .entry)) (now (cache .entry)) (now (out .entry)) ⌝ }
+{
+    if cache.len() != 64 {
+        return 255;
+    }
+    if out.len() != 5 {
+        return 255;
+    }
+    let held = cache_of(cache);
+    let told = map::remove_item(img, page, held, size, key);
+    finish(cache, out, told)
+}
+
+// All keys are removed.
+#[no_mangle]
+pub extern "C" fn map_remove_all_items(
+    img: &mut [u8],
+    page: usize,
+    cache: &mut [u32],
+    size: usize,
+    out: &mut [u32],
+) -> u32
+    ensures { λ r. ⌜ record { no = r; image = now (img .exit); cache = now (cache .exit); out = now (out .exit) } ≡ border page size removeAllItems (now (img .entry)) (now (cache .entry)) (now (out .entry)) ⌝ }
+{
+    if cache.len() != 64 {
+        return 255;
+    }
+    if out.len() != 5 {
+        return 255;
+    }
+    let held = cache_of(cache);
+    let told = map::remove_all_items(img, page, held, size);
+    finish(cache, out, told)
+}
+
+// All pages are erased.
+#[no_mangle]
+pub extern "C" fn map_erase_all(
+    img: &mut [u8],
+    page: usize,
+    cache: &mut [u32],
+    size: usize,
+    out: &mut [u32],
+) -> u32
+    ensures { λ r. ⌜ record { no = r; image = now (img .exit); cache = now (cache .exit); out = now (out .exit) } ≡ border page size eraseAllPages (now (img .entry)) (now (cache .entry)) (now (out .entry)) ⌝ }
+{
+    if cache.len() != 64 {
+        return 255;
+    }
+    if out.len() != 5 {
+        return 255;
+    }
+    let held = cache_of(cache);
+    let told = map::erase_all(img, page, held, size);
+    finish(cache, out, told)
+}
+
+// A walk over all items in order of age: its start.
+#[no_mangle]
+pub extern "C" fn map_walk_start(
+    img: &mut [u8],
+    page: usize,
+    cache: &mut [u32],
+    size: usize,
+    cursor: &mut [u32],
+    out: &mut [u32],
+) -> u32
+    ensures { λ r. ⌜ record { no = r; image = now (img .exit); cache = now (cache .exit); cursor = now (cursor .exit); out = now (out .exit) } ≡ startBorder page size (now (img .entry)) (now (cache .entry)) (now (cursor .entry)) (now (out .entry)) ⌝ }
+{
+    if cache.len() != 64 {
+        return 255;
+    }
+    if cursor.len() != 3 {
+        return 255;
+    }
+    if out.len() != 5 {
+        return 255;
+    }
+    let held = cache_of(cache);
+    let s = map::fetch_all_items(img, page, held, size);
+    let a = s.answer;
+    let c = s.cache;
+    keep_cursor(cursor, a, s.cursor);
+    finish(
+        cache,
+        out,
+        Told {
+            answer: a,
+            cache: c,
+            erased: s.erased,
+        },
+    )
+}
+
+// A walk's next item, from any cursor.
+#[no_mangle]
+pub extern "C" fn map_walk_step(img: &[u8], page: usize, cursor: &mut [u32], out: &mut [u32]) -> u32
+    ensures { λ r. ⌜ record { no = r; cursor = now (cursor .exit); out = now (out .exit) } ≡ stepBorder page (now (img .entry)) (now (cursor .entry)) (now (out .entry)) ⌝ }
+{
+    if cursor.len() != 3 {
+        return 255;
+    }
+    if out.len() != 5 {
+        return 255;
+    }
+    let at = cursor_of(cursor);
+    let s = map::next_item(img, page, at);
+    let a = s.answer;
+    keep_cursor(cursor, a, s.cursor);
+    put_out(out, 0, a);
+    answer::number(a)
+}
