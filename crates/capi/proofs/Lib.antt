@@ -2,5 +2,3 @@
 pub mod Words
 -- what a call at the border leaves
 pub mod Ends
--- what the words say: an end leaves the cursor, a refusal writes zeros
-pub mod Says

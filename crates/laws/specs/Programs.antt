@@ -1,5 +1,5 @@
 -- Programming and laying bytes over, byte by byte and piece by piece.
-use mathlib.Core.Path.{_≡_, refl, sym}
+use mathlib.Core.Path.{_≡_, sym}
 use mathlib.Core.Logic.{_⊎_, ⊎-elim}
 use Prim.Native.Nat.{ℕ, suc, _+_, _≤_, _<_}
 use native.Mathlib.Omega.{arith}
@@ -10,7 +10,7 @@ use lib.ListN.{length, getD, set, take, drop, length-drop, length-append, length
 use lib.Seq.{drop-cons, take-suc-set, drop-set-lt, length-take-le}
 use lib.Bits.{bitAnd}
 use Rattle.rules.specs.Bytes.{andAll, splice, program}
-use Rattle.laws.specs.Splice.{length-splice, win-before, win-after}
+use Rattle.laws.specs.Splice.{win-before, win-after}
 use Rattle.laws.specs.ByteLaws.{length-andAll}
 
 -- nothing is programmed
@@ -18,9 +18,6 @@ pub program-nil : (l : List ℕ) (a : ℕ) → program l a [] ≡ l
 unfolding program splice
 program-nil l a = go (drop a l)
   where
-    zero-and : (x : List ℕ) → andAll (take 0 x) [] ≡ []
-    zero-and x = refl
-
     go : (x : List ℕ) → take a l ++ (andAll (take 0 x) [] ++ drop (a + length (andAll (take 0 x) [])) l) ≡ l
     go x = rw (add-zero a) (take-append-drop a l)
 
@@ -46,13 +43,6 @@ program-append l a (x ∷ xs) ys h =
     let la = length-append xs ys in
     rw (program-cons l a x (xs ++ ys) (omega arith), program-cons l a x xs (omega arith), q)
     (program-append (set l a (bitAnd (getD l a 0) x)) (a + 1) xs ys (rw length-set (omega arith)))
-
-pub length-program : (l : List ℕ) (a : ℕ) (bs : List ℕ) → a + length bs ≤ length l → length (program l a bs) ≡ length l
-unfolding program
-length-program l a bs h =
-    let lt : length (take (length bs) (drop a l)) ≡ length bs = length-take-le (length bs) (drop a l) (rw length-drop (omega arith)) in
-    let la = length-andAll (take (length bs) (drop a l)) bs lt in
-    length-splice l a (andAll (take (length bs) (drop a l)) bs) (omega arith)
 
 -- a window that nothing is programmed in
 pub program-window : (l : List ℕ) (at : ℕ) (bs : List ℕ) → at + length bs ≤ length l → (a m : ℕ) → (a + m ≤ at) ⊎ (at + length bs ≤ a)

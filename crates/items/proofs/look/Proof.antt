@@ -9,7 +9,7 @@ use Rattle.items.proofs.look.Tie as tie
 
 returns : tie.Need-returns
 unfolding read readBy
-returns c = (rw (lt-ltb _ _ (c .if1 .taken)), tt)
+returns c = (rw (lt-ltb _ 8 (c .if1 .taken)), tt)
 
 slice-aggregate-all-ff : tie.Need-slice-aggregate-all-ff
 slice-aggregate-all-ff c = sym (length-take-le 8 (c .before .before .before .args .s .now) (omega arith))

@@ -1,6 +1,8 @@
 use Rattle.search.proofs.Laws.{hit-in}
 use Rattle.ring.proofs.Laws.{spot-mono}
-use Rattle.rules.specs.Fetch.{hit}
+use Rattle.rules.specs.Items.{read}
+use Rattle.rules.specs.Fetch.{hit, hitItem}
+use Rattle.items.specs.Code.{part, told}
 use Rattle.search.specs.Code.{spotOf}
 use mathlib.Core.Path.{_≡_}
 use Prim.Native.Nat.{_+_, _-_, _%_}
@@ -35,8 +37,9 @@ unfolding hit
 returns-5 c = let a = c .before .before .before .before .before .before .before .before .before .before .before .before .before .args in
     let h = hit-in (a .g) (length (a .img .now)) (a .a) (c .before .before .before .before .before .before .before .before .before .before .before .before .before .pre .0) (c .before .before .before .before .before .before .before .before .if1 .left) (c .before .before .before .before .if3 .left) in
     let r = a .a % a .g .page in
+    let here : spotOf (c .hit-at .result) ≡ told (hitItem (a .key) (a .a) (read (a .g .word) (part (a .img .now) (a .a) (a .a + (a .g .page - a .g .word - r))))) = c .hit-at .ensures .0 in
     let q : a .a + (a .g .page - a .g .word - r) - a .a ≡ a .g .page - a .g .word - r = omega arith in (
-      rw (lt-ltb _ _ (c .before .before .before .before .before .before .before .before .if1 .left), le-leb _ _ (c .before .before .before .before .before .before .if2 .left), le-leb _ _ (c .before .before .before .before .if3 .left), eq-eqb _ _ (c .before .before .if4 .left)) (rw q at (c .hit-at .ensures .0)),
+      rw (lt-ltb _ _ (c .before .before .before .before .before .before .before .before .if1 .left), le-leb _ _ (c .before .before .before .before .before .before .if2 .left), le-leb _ _ (c .before .before .before .before .if3 .left), eq-eqb _ _ (c .before .before .if4 .left)) (rw q at here),
       spot-mono _ _ (spotOf (c .hit-at .result)) (omega arith) (c .hit-at .ensures .1),
     )
 

@@ -12,7 +12,7 @@ key-requires : tie.Need-key-requires
 key-requires c κs = let a = c .before .before .before .before .before .before .before .before .before .args in let f = rw (c .before .before .before .before .before .r .given .1) at (c .before .before .before .before .before .before .before .look-at .ensures .1) in let l = long-part (a .img .now) (a .a) (a .e) (omega arith) in let k = rw (c .before .if1 .taken) at (c .before .before .present .ensures .1) in omega arith
 
 returns : tie.Need-returns
-returns c = let f = rw (c .before .before .before .before .before .before .before .r .given .1) at (c .before .before .before .before .before .before .before .before .before .look-at .ensures .1) in let k = rw (c .before .before .before .if1 .taken) at (c .before .before .before .before .present .ensures .1) in (rw (← c .before .before .before .before .before .before .before .before .before .look-at .ensures .0, c .before .before .before .before .before .before .before .r .given .1, ← c .before .before .before .before .present .ensures .0, c .before .before .before .if1 .taken, ← c .before .key .ensures, eq-eqb _ _ (c .if2 .taken)), omega arith)
+returns c = let f = rw (c .before .before .before .before .before .before .before .r .given .1) at (c .before .before .before .before .before .before .before .before .before .look-at .ensures .1) in let k = rw (c .before .before .before .if1 .taken) at (c .before .before .before .before .present .ensures .1) in (rw (← c .before .before .before .before .before .before .before .before .before .look-at .ensures .0, c .before .before .before .before .before .before .before .r .given .1, ← c .before .before .before .before .present .ensures .0, c .before .before .before .if1 .taken, ← c .before .key .ensures, eq-eqb (c .before .key .result) _ (c .if2 .taken)), omega arith)
 
 returns-2 : tie.Need-returns-2
 returns-2 c = (rw (← c .before .before .look-at .ensures .0, c .enum-told .given .1), tt)
@@ -21,7 +21,7 @@ returns-3 : tie.Need-returns-3
 returns-3 c = (rw (← c .before .before .look-at .ensures .0, c .enum-told2 .given .1), tt)
 
 returns-4 : tie.Need-returns-4
-returns-4 c = (rw (← c .before .before .before .before .before .before .before .before .before .look-at .ensures .0, c .before .before .before .before .before .before .before .r .given .1, ← c .before .before .before .before .present .ensures .0, c .before .before .before .if1 .taken, ← c .before .key .ensures, ne-eqb _ _ (c .if2 .left)), tt)
+returns-4 c = (rw (← c .before .before .before .before .before .before .before .before .before .look-at .ensures .0, c .before .before .before .before .before .before .before .r .given .1, ← c .before .before .before .before .present .ensures .0, c .before .before .before .if1 .taken, ← c .before .key .ensures, ne-eqb (c .before .key .result) _ (c .if2 .left)), tt)
 
 returns-5 : tie.Need-returns-5
 returns-5 c = (rw (← c .before .before .before .before .before .before .look-at .ensures .0, c .before .before .before .before .r .given .1, ← c .before .present .ensures .0, c .if1 .left), tt)
