@@ -36,7 +36,7 @@ use Rattle.theory.specs.Latest.{begun, start-res, walkedLog, lists-of, not-corr
 use Rattle.promises.specs.Promise.{Given, refused, entriesOf, runOf, Shows, Right, again, StepRight}
 use Rattle.promises.specs.Rule.{store-rule, store-erases}
 use Rattle.promises.specs.Walks.{walk-one, walked, step-rule, step-ends}
-use Rattle.promises.specs.Behind.{called-runs, either, run-size}
+use Rattle.promises.specs.Behind.{called-runs, either, run-kept}
 
 shows-clean : (img : List ℕ) (a : Answer) (o : Option (List ℕ)) → Shows img a o → a ≢ Corrupted
 shows-clean img a none h e = let z = ap number (sym h ∙ e) in omega arith
@@ -124,7 +124,7 @@ module _ (w E m : ℕ) where
         (record { whole = A .whole; two = A .two; room = A .room; words = A .words; most = A .most; few = A .few; cached = omega arith; fits = A .fits })
 
     entries : (c : Call) → entriesOf m c ≡ m → length (runOf G c s₀ .st .cache) ≡ m
-    entries c e = run-size G c s₀ ∙ length-take-le m (b .cache) (R .many)
+    entries c e = run-kept G c s₀ .entries ∙ length-take-le m (b .cache) (R .many)
 
     -- what a call leaves is lent again
     next : (img′ : List ℕ) (ca′ : Cache) (l′ : List Pair) → length ca′ ≡ m → Sane G img′ ca′ → Lists G img′ l′ → Fine (record { image = img′; cache = ca′ ++ drop m (b .cache) }) l′

@@ -2,11 +2,11 @@
 -- 32 that are lent. Their words stand in Promise.antt; `SoundImage` in rules' Sound.antt, `listAfter` and `latest` in its List.antt.
 use mathlib.Core.Path.{_≡_, refl, sym, ap, _∙_, subst}
 use mathlib.Core.Logic.{_≢_, _↔_, _⊎_, inl}
-use Prim.Native.Nat.{ℕ, _+_, _≤_}
+use Prim.Native.Nat.{ℕ, _+_, _*_, _≤_}
 use mathlib.Core.List.{List, [], _∷_}
 use lib.ListN.{length, replicate, length-replicate}
 use native.Mathlib.Omega.{arith}
-use Rattle.rules.specs.declared.{Geo.Geo, Answer.Answer, Answer.the-variants.Done, Answer.the-variants.Corrupted, Cursor.Cursor}
+use Rattle.rules.specs.declared.{Geo.Geo, Answer.Answer, Answer.the-variants.Done, Answer.the-variants.Value, Answer.the-variants.Item, Answer.the-variants.Corrupted, Cursor.Cursor}
 use Rattle.rules.specs.Bytes.{replay, Bytes}
 use Rattle.rules.specs.Items.{Entry, size}
 use Rattle.rules.specs.Pages.{ringUp}
@@ -24,9 +24,10 @@ use Rattle.laws.specs.Rings.{logOf}
 use Rattle.laws.specs.Plays.{repair-plays}
 use Rattle.theory.specs.Sane.{not-eight, is-seven, blank-image}
 use Rattle.theory.specs.Latest.{listOf}
+use Rattle.theory.specs.Kept.{AnswerIn}
 use Rattle.promises.specs.Promise.{Given, AllGiven, fresh, seen, refusalOf, refused, runOf, worksOn, FullRule, Single, Follows, WalkRight, StepRight}
 use Rattle.promises.specs.Singles.{single-after, latest-single}
-use Rattle.promises.specs.Behind.{called-refused, called-runs, size-kept, run-plays}
+use Rattle.promises.specs.Behind.{called-refused, called-runs, size-kept, run-plays, image-length, answer-in, erased-in}
 use Rattle.promises.specs.Answers.{step-right}
 use Rattle.promises.specs.AnyLent.{all-kept}
 use Rattle.promises.specs.Sequences.{follows, same-seen, begins}
@@ -112,6 +113,21 @@ refusals-leave w E m c b n = called-refused w E m c b n
 
 pub cache-length : (w E m : ℕ) (c : Call) (b : Lent) → length (called w E m c b .cache) ≡ length (b .cache)
 cache-length w E m c b = size-kept w E m c b
+
+-- ---- EVERY ANSWER, on every image, with every cache and cursor: the image keeps its length, a value or an item that is answered lies in it, and at
+-- most 3 n + 2 pages are erased. ("first run, repair and second run all count")
+
+pub image-keeps-length : (w E m : ℕ) → (w ≡ 4) ⊎ (w ≡ 8) → (c : Call) (b : Lent) → length (called w E m c b .image) ≡ length (b .image)
+image-keeps-length w E m word c b = image-length w E m c b word
+
+pub value-inside : (w E m : ℕ) → (w ≡ 4) ⊎ (w ≡ 8) → (c : Call) (b : Lent) (a l : ℕ) → called w E m c b .answer ≡ Value a l → a + l ≤ length (b .image)
+value-inside w E m word c b a l e = subst (AnswerIn (length (b .image))) e (answer-in w E m c b word (length (b .image)) (λ x. omega arith))
+
+pub item-inside : (w E m : ℕ) → (w ≡ 4) ⊎ (w ≡ 8) → (c : Call) (b : Lent) (k a l : ℕ) → called w E m c b .answer ≡ Item k a l → a + l ≤ length (b .image)
+item-inside w E m word c b k a l e = subst (AnswerIn (length (b .image))) e (answer-in w E m c b word (length (b .image)) (λ x. omega arith))
+
+pub erases-few : (w E m : ℕ) (c : Call) (b : Lent) → called w E m c b .erased ≤ 3 * geoOf w E (length (b .image)) .pages + 2
+erases-few w E m c b = erased-in w E m c b (3 * geoOf w E (length (b .image)) .pages + 2) (λ x. omega arith)
 
 -- ---- A STEP. "A single step answers by that rule on the cursor and image it is given": any cursor, any image of bytes whose sizes are accepted.
 

@@ -26,5 +26,6 @@ pub mod Removal
 pub mod Removing
 pub mod Latest
 pub mod AnyCache
--- 9 any image: the number of cache entries
-pub mod Sizes
+-- 9 any image: what every run keeps
+pub mod Kept
+pub mod Steps
