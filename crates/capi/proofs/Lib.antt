@@ -2,3 +2,5 @@
 pub mod Words
 -- what a call at the border leaves
 pub mod Ends
+-- what is told fits the words
+pub mod Small

@@ -1,5 +1,5 @@
 -- What the C border takes and leaves, in words of 32 bits.
-use Prim.Native.Nat.{ℕ, _%_}
+use Prim.Native.Nat.{ℕ, _<_}
 use mathlib.Core.List.{List, [], _∷_, _++_}
 use lib.Dec.{eqb}
 use lib.ListN.{length, getD, take, drop}
@@ -11,9 +11,9 @@ use Rattle.rules.specs.Calls.{Told as Handed, Call, called, fetchPlain, fetchAl
 use Rattle.cache.specs.Code.{entries}
 use Rattle.capi.specs.declared.Shown.{Shown}
 
--- a number's low 32 bits
-abbrev pub low : ℕ → ℕ
-low n = n % 4294967296
+-- a number that fits a word
+abbrev pub Word : ℕ → Type 0
+Word n = n < 4294967296
 
 -- ---- the cache: the keys and then the places
 
@@ -42,7 +42,10 @@ cursorOf ws = record { first = getD ws 0 0; page = getD ws 1 0; place = getD ws 
 
 -- the words of a cursor
 abbrev pub cursorWords : Cursor → List ℕ
-cursorWords c = low (c .first) ∷ low (c .page) ∷ low (c .place) ∷ []
+cursorWords c = c .first ∷ c .page ∷ c .place ∷ []
+
+abbrev pub CursorFits : Cursor → Type 0
+CursorFits c = Word (c .first) × Word (c .page) × Word (c .place)
 
 -- ---- out: erased pages, kind, place, length, key
 
@@ -58,10 +61,13 @@ shownOf a = shownBy (paper a .values)
 
 -- the five words of an answer with its erase count
 abbrev pub shownWords : ℕ → Shown → List ℕ
-shownWords e s = low e ∷ s .kind ∷ low (s .place) ∷ low (s .len) ∷ s .key ∷ []
+shownWords e s = e ∷ s .kind ∷ s .place ∷ s .len ∷ s .key ∷ []
 
 abbrev pub outWords : ℕ → Answer → List ℕ
 outWords e a = shownWords e (shownOf a)
+
+abbrev pub Fits : ℕ → Answer → Type 0
+Fits e a = Word e × Word (shownOf a .place) × Word (shownOf a .len)
 
 -- ---- a call at the border
 

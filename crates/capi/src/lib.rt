@@ -5,7 +5,7 @@ ghost use lib.ListN.{length};
 ghost use Rattle.rules.specs.Answers.{number};
 ghost use Rattle.rules.specs.Calls.{fetchItem, storeItem, removeItem, removeAllItems, eraseAllPages};
 ghost use Rattle.cache.specs.Code.{pointers};
-ghost use Rattle.capi.specs.Code.{low, entriesOf, cacheWords, cursorOf, cursorWords, cursorAfter, shownOf, outWords, border, plainBorder, startBorder, stepBorder};
+ghost use Rattle.capi.specs.Code.{Word, Fits, CursorFits, entriesOf, cacheWords, cursorOf, cursorWords, cursorAfter, shownOf, outWords, border, plainBorder, startBorder, stepBorder};
 use cache::Cache;
 use map::Told;
 use rules::Answer;
@@ -66,11 +66,12 @@ fn put_cache(words: &mut [u32], cache: Cache)
     lay(&mut words[32..64], places);
 }
 
-// A number's low 32 bits.
-fn low(n: usize) -> u32
-    ensures { λ r. ⌜ r ≡ low n ⌝ }
+// A number that fits a word.
+fn word(n: usize) -> u32
+    requires { ⌜ Word n ⌝ }
+    ensures { λ r. ⌜ r ≡ n ⌝ }
 {
-    (n % 4294967296) as u32
+    n as u32
 }
 
 // What an answer shows.
@@ -123,27 +124,27 @@ fn set_five(out: &mut [u32], erased: u32, kind: u32, place: u32, len: u32, key: 
 
 // An answer and its erase count in five words.
 fn put_out(out: &mut [u32], erased: usize, a: Answer)
-    requires { ⌜ length (now out) ≡ 5 ⌝ }
+    requires { ⌜ (length (now out) ≡ 5) × Fits erased a ⌝ }
     ensures { λ _. ⌜ now (out .exit) ≡ outWords erased a ⌝ }
 {
     let s = show(a);
-    let count = low(erased);
-    let place = low(s.place);
-    let len = low(s.len);
+    let count = word(erased);
+    let place = word(s.place);
+    let len = word(s.len);
     set_five(out, count, s.kind, place, len, s.key);
 }
 
 // A word as a number.
-fn wide(word: u32) -> usize
-    ensures { λ r. ⌜ r ≡ word ⌝ }
+fn wide(w: u32) -> usize
+    ensures { λ r. ⌜ (r ≡ w) × Word r ⌝ }
 {
-    word as usize
+    w as usize
 }
 
 // The cursor of three words.
 fn cursor_of(words: &[u32]) -> Cursor
     requires { ⌜ length (now words) ≡ 3 ⌝ }
-    ensures { λ r. ⌜ r ≡ cursorOf (now (words .entry)) ⌝ }
+    ensures { λ r. ⌜ (r ≡ cursorOf (now (words .entry))) × CursorFits r ⌝ }
 {
     let first = wide(words[0]);
     let page = wide(words[1]);
@@ -163,18 +164,18 @@ fn set_three(words: &mut [u32], first: u32, page: u32, place: u32)
 
 // The cursor back into its three words.
 fn put_cursor(words: &mut [u32], c: Cursor)
-    requires { ⌜ length (now words) ≡ 3 ⌝ }
+    requires { ⌜ (length (now words) ≡ 3) × CursorFits c ⌝ }
     ensures { λ _. ⌜ now (words .exit) ≡ cursorWords c ⌝ }
 {
-    let first = low(c.first);
-    let page = low(c.page);
-    let place = low(c.place);
+    let first = word(c.first);
+    let page = word(c.page);
+    let place = word(c.place);
     set_three(words, first, page, place);
 }
 
 // The cursor after an answer: written where its number is 0.
 fn keep_cursor(words: &mut [u32], a: Answer, c: Cursor)
-    requires { ⌜ length (now words) ≡ 3 ⌝ }
+    requires { ⌜ (length (now words) ≡ 3) × CursorFits c ⌝ }
     ensures { λ _. ⌜ now (words .exit) ≡ cursorAfter (now (words .entry)) a c ⌝ }
 {
     if answer::number(a) == 0 {
@@ -184,7 +185,7 @@ fn keep_cursor(words: &mut [u32], a: Answer, c: Cursor)
 
 // What a call told, in the words of its cache and out, and its number.
 fn finish(cache: &mut [u32], out: &mut [u32], told: Told) -> u32
-    requires { ⌜ (length (now cache) ≡ 64) × (length (now out) ≡ 5) ⌝ }
+    requires { ⌜ (length (now cache) ≡ 64) × (length (now out) ≡ 5) × Fits (told .erased) (told .answer) ⌝ }
     ensures { λ r. ⌜ (r ≡ number (told .answer)) × (now (cache .exit) ≡ cacheWords (pointers 32 (told .cache))) × (now (out .exit) ≡ outWords (told .erased) (told .answer)) ⌝ }
 {
     let c = told.cache;

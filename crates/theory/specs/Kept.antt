@@ -243,10 +243,10 @@ module _ (G : Geo) where
 
       go : (b : Bool) → isPage G p ≡ b
           → Kept G 1 s (pick b
-            (pick (same Open (state G (s .img) (next G p)))
-            (pick (hasFreeSpot G (s .img) p (size (G .word) (4 + length v))) (programming a (encode (G .word) k v) (noting k a s) (out Done)) (programming (endAt G p) (zeroWord G) s roll))
-            (out Corrupted s))
-            (pick (isPage G (firstPage G Open (s .img))) (programming (startAt G (firstPage G Open (s .img))) (zeroWord G) s (out FullStorage)) (out Corrupted s)))
+          (pick (same Open (state G (s .img) (next G p)))
+          (pick (hasFreeSpot G (s .img) p (size (G .word) (4 + length v))) (programming a (encode (G .word) k v) (noting k a s) (out Done)) (programming (endAt G p) (zeroWord G) s roll))
+          (out Corrupted s))
+          (pick (isPage G (firstPage G Open (s .img))) (programming (startAt G (firstPage G Open (s .img))) (zeroWord G) s (out FullStorage)) (out Corrupted s)))
       go true e =
           let h = next-in G p (ltb-true p (G .pages) e) in
           one-of 1 s (same Open (state G (s .img) (next G p))) _ _
@@ -313,7 +313,7 @@ module _ (G : Geo) where
   auto-kept b c m f h s =
       let n = G .pages + 2 in
       let look : (t : St) → Kept G b t (looked G f t) =
-        λ t. one-of b t (anyCorrupted G (t .img)) _ _ (more 0 b t (out Corrupted t) (omega arith) (done Corrupted t (λ n. tt))) (h t) in
+      λ t. one-of b t (anyCorrupted G (t .img)) _ _ (more 0 b t (out Corrupted t) (omega arith) (done Corrupted t (λ n. tt))) (h t) in
       goes-on 8 b (n + b) c m s (looked G f s) _ (look s)
       (λ t. goes-on 8 (n + b) 0 (n + b) (omega arith) t (onDone (repair G t) (looked G f)) (λ u. out Corrupted (cleared u))
       (goes-on 0 n b (n + b) (omega arith) t (repair G t) (looked G f) (repair-kept t) look)

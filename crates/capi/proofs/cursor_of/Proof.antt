@@ -4,7 +4,7 @@ use Rattle.capi.proofs.cursor_of.Statement.{statement}
 use Rattle.capi.proofs.cursor_of.Tie as tie
 
 returns : tie.Need-returns
-returns c = rw (c .before .before .before .before .wide .ensures, c .before .before .wide2 .ensures, c .wide3 .ensures)
+returns c = (rw (c .before .before .before .before .wide .ensures .0, c .before .before .wide2 .ensures .0, c .wide3 .ensures .0), (c .before .before .before .before .wide .ensures .1, c .before .before .wide2 .ensures .1, c .wide3 .ensures .1))
 
 pub cursor-of-spec : {M : Type 1} → statement M
 cursor-of-spec =

@@ -1,6 +1,9 @@
 -- `capi::map_remove_item` meets its contract.
 use Rattle.rules.specs.Calls.{removeItem}
+use Rattle.map.specs.Code.{lentOf, toldOf}
+use Rattle.capi.proofs.Small.{told-fits}
 use Rattle.capi.proofs.Ends.{no-cache, no-out, told}
+use native.Mathlib.Omega.{arith}
 use borrow.Author.Needs.{needs}
 use Rattle.capi.proofs.map_remove_item.Statement.{statement}
 use Rattle.capi.proofs.map_remove_item.Tie as tie
@@ -15,6 +18,13 @@ returns-2 c =
     let a = c .before .before .before .before .before .args in
     no-out (a .page) (a .size) (removeItem (a .key)) (a .img .now) (a .cache .now) (a .out .now) (c .before .if1 .left) (c .if2 .taken)
 
+finish-requires : tie.Need-finish-requires
+finish-requires c κs =
+    let a = c .before .before .before .before .before .before .before .before .before .before .before .before .before .args in
+    let held = c .before .before .before .before .before .before .cache-of in
+    let r = c .before .before .before .before .remove-item in
+    (omega arith, omega arith, told-fits (a .page) (a .size) (removeItem (a .key)) (lentOf (a .img .now) (held .result)) (toldOf (r .last .0) (r .result)) (r .ensures))
+
 returns-3 : tie.Need-returns-3
 returns-3 c =
     let a = c .before .before .before .before .before .before .before .before .before .before .before .before .before .before .before .before .before .before .args in
@@ -26,5 +36,5 @@ returns-3 c =
 pub map-remove-item-spec : {M : Type 1} → statement M
 map-remove-item-spec =
     tie.close (tie.spec
-    returns returns-2 (λ c κs. search needs) (λ c κs. search needs) (λ c κs. search needs) (λ c. search needs) (λ c. search needs)
+    returns returns-2 (λ c κs. search needs) (λ c κs. search needs) finish-requires (λ c. search needs) (λ c. search needs)
     (λ c. search needs) returns-3)

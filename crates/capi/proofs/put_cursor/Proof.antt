@@ -4,7 +4,7 @@ use Rattle.capi.proofs.put_cursor.Statement.{statement}
 use Rattle.capi.proofs.put_cursor.Tie as tie
 
 returns : tie.Need-returns
-returns c = rw (c .before .before .set-three .ensures, c .before .before .before .before .before .before .low .ensures, c .before .before .before .before .before .low2 .ensures, c .before .before .before .before .low3 .ensures)
+returns c = rw (c .before .before .set-three .ensures, c .before .before .before .before .before .before .word .ensures, c .before .before .before .before .before .word2 .ensures, c .before .before .before .before .word3 .ensures)
 
 pub put-cursor-spec : {M : Type 1} → statement M
 put-cursor-spec =
