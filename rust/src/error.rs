@@ -61,7 +61,9 @@ impl fmt::Display for Error {
             Error::FullStorage => {
                 "there is no room for the value: remove keys that aren't needed, or use a larger image"
             }
-            Error::Corrupted => "the image is damaged and was not repaired; erasing all pages makes it usable again",
+            Error::Corrupted => {
+                "the image is damaged and was not repaired; erasing all pages makes it usable again, without its values"
+            }
         })
     }
 }
