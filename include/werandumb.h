@@ -1,24 +1,20 @@
-/* Werandumb: a key-value map on flash. Link target/staticlib/libcapi.a, made by `rt staticlib capi`.
+/* Werandumb: a key-value map on flash, for C.
  *
- * image  the flash image: pages of `page` bytes, blank bytes are 0xFF. Words of 4 bytes.
- * cache  64 words, the 32 keys and then the 32 places; all 0 is empty. `size` entries of the 32 are in use, 0 to 32.
- *        Lend the same cache to every call on an image, or an empty one.
- * cursor 3 words: first page, page, place. Written by a start or a step that answers 0; an end leaves it.
- * out    5 words, written on every answer but 255: erased pages; kind (0 nothing, 1 a value or an item); place and
- *        length of the value in the image; key of a walk's item. What does not apply is 0.
+ * Link libcapi.a: target/staticlib/libcapi.a, made by `rt staticlib capi`, on x86-64; target/native/libcapi.a, made by
+ * `tools/native`, on any machine that has the Rattle kit. It calls memcpy, memmove and memset and nothing else, takes no
+ * memory and keeps nothing between calls.
  *
- * Answers:
- *   0    done; with kind 1 a value or an item; a fetch or a step with kind 0 found none
- *   1    EndRangeNotAtPageBoundary: the image is no whole number of pages
- *   2    RangeTooSmall: fewer than two pages
- *   3    PagesTooSmall: pages of 0 bytes, or under 20
- *   4    Geometry: pages off a word or over 32,768 bytes, or more than 256 of them
- *   5    CacheSize: more than 32 entries
- *   6    ItemTooBig: a value over page - 20 bytes
- *   7    FullStorage: no room; stored values stay
- *   8    Corrupted: the image could not be repaired; the cache is empty
- *   255  a cache, cursor or out of another length than 64, 3 or 5; nothing is changed
- * Answers 1 to 6 change neither image nor cache.
+ * A slice is a pointer and a length: bytes in image and value, words of 32 bits in cache, cursor and out. No pointer is
+ * null, not even with length 0, and no two slices of a call overlap. Every call then ends and touches nothing else,
+ * whatever numbers and bytes it is given.
+ *
+ *   image    the flash image, image_len bytes in pages of `page` bytes; blank bytes are 0xFF
+ *   cache    64 words, the 32 keys and then the 32 places; all 0 is empty. `size` of the 32 entries are in use, 0 to 32.
+ *            Start with an empty one, and lend it, with the same size, to every call on the image that takes one
+ *   cursor   3 words, where a walk stands: first page, page, place
+ *   out      5 words, written by every answer but 255; what does not apply is 0
+ *
+ * Each function returns an answer of enum werandumb_answer.
  */
 #ifndef WERANDUMB_H
 #define WERANDUMB_H
@@ -30,34 +26,71 @@
 extern "C" {
 #endif
 
-/* The newest value of a key. A damaged image is repaired once. */
+/* The lengths of a cache, a cursor and an out, in words, and the most entries that a cache has in use. */
+enum werandumb_length {
+    WERANDUMB_CACHE = 64,
+    WERANDUMB_CURSOR = 3,
+    WERANDUMB_OUT = 5,
+    WERANDUMB_ENTRIES = 32
+};
+
+/* The words of out. */
+enum werandumb_out {
+    WERANDUMB_OUT_ERASED = 0, /* how many pages the call erased */
+    WERANDUMB_OUT_KIND = 1,   /* 1: a value or an item was found; 0: none, or the call looks for none */
+    WERANDUMB_OUT_PLACE = 2,  /* where the value starts in the image */
+    WERANDUMB_OUT_LENGTH = 3, /* its bytes */
+    WERANDUMB_OUT_KEY = 4     /* the key of a walk's item */
+};
+
+/* The answers. 1 to 6 are refusals: only out is written. Where several are due, pages of 0 bytes come first (3), then the
+ * lowest number. */
+enum werandumb_answer {
+    WERANDUMB_DONE = 0,                           /* done; out has the kind, so whether something was found */
+    WERANDUMB_END_RANGE_NOT_AT_PAGE_BOUNDARY = 1, /* the image is no whole number of pages */
+    WERANDUMB_RANGE_TOO_SMALL = 2,                /* the image has fewer than two pages */
+    WERANDUMB_PAGES_TOO_SMALL = 3,                /* a page has fewer than 20 bytes */
+    WERANDUMB_GEOMETRY = 4,                       /* a page is no multiple of 4 bytes or over 32,768, or over 256 pages */
+    WERANDUMB_CACHE_SIZE = 5,                     /* size is over 32 */
+    WERANDUMB_ITEM_TOO_BIG = 6,                   /* the value has over page - 20 bytes */
+    WERANDUMB_FULL_STORAGE = 7,                   /* no room for the value; the values that are stored stay */
+    WERANDUMB_CORRUPTED = 8,                      /* the image is damaged beyond one repair; the cache is empty */
+    WERANDUMB_WRONG_LENGTH = 255                  /* a cache, cursor or out of another length; nothing is written */
+};
+
+/* The newest value of a key: kind 1 with its place and length, or kind 0. A damaged image is repaired once, so the image
+ * can change. Answers 0 to 5, 8, 255. */
 uint32_t map_fetch_item(uint8_t *image, size_t image_len, size_t page, uint32_t *cache, size_t cache_len, size_t size,
                         uint32_t key, uint32_t *out, size_t out_len);
 
-/* The newest value of a key, without a cache: nothing is repaired, and nothing but out changes. */
+/* The same without a cache and without a repair: a damaged image answers 8 at once. Answers 0 to 4, 8, 255. */
 uint32_t map_fetch_plain(const uint8_t *image, size_t image_len, size_t page, uint32_t key, uint32_t *out, size_t out_len);
 
-/* A key gets a value. */
+/* Stores a value of a key, in place of the one before. A damaged image is repaired once. Answers 0 to 8, 255. */
 uint32_t map_store_item(uint8_t *image, size_t image_len, size_t page, uint32_t *cache, size_t cache_len, size_t size,
                         uint32_t key, const uint8_t *value, size_t value_len, uint32_t *out, size_t out_len);
 
-/* A key is removed, with all its values. */
+/* Removes a key with all its values; a key that is not held is done too. A damaged image is repaired once.
+ * Answers 0 to 5, 8, 255. */
 uint32_t map_remove_item(uint8_t *image, size_t image_len, size_t page, uint32_t *cache, size_t cache_len, size_t size,
                          uint32_t key, uint32_t *out, size_t out_len);
 
-/* All keys are removed. */
+/* Removes all keys: their items are marked, no page is erased for it. A damaged image is repaired once.
+ * Answers 0 to 5, 8, 255. */
 uint32_t map_remove_all_items(uint8_t *image, size_t image_len, size_t page, uint32_t *cache, size_t cache_len, size_t size,
                               uint32_t *out, size_t out_len);
 
-/* All pages are erased. */
+/* Erases all pages, whatever they hold, and empties the cache. Answers 0 to 5, 255. */
 uint32_t map_erase_all(uint8_t *image, size_t image_len, size_t page, uint32_t *cache, size_t cache_len, size_t size,
                        uint32_t *out, size_t out_len);
 
-/* A walk over all items starts: its cursor. A damaged image is repaired once. */
+/* Starts a walk over all items. Answer 0 writes the cursor, any other leaves it. A damaged image is repaired once.
+ * Answers 0 to 5, 8, 255. */
 uint32_t map_walk_start(uint8_t *image, size_t image_len, size_t page, uint32_t *cache, size_t cache_len, size_t size,
                         uint32_t *cursor, size_t cursor_len, uint32_t *out, size_t out_len);
 
-/* A walk's next item; kind 0 is its end. Nothing but cursor and out changes. */
+/* The walk's next item: kind 1 with its key, place and length, and the cursor moves on; kind 0 at the end, and the cursor
+ * stays. A key's older values come before its newest. Any cursor may be lent. Answers 0 to 4, 255. */
 uint32_t map_walk_step(const uint8_t *image, size_t image_len, size_t page, uint32_t *cursor, size_t cursor_len,
                        uint32_t *out, size_t out_len);
 
