@@ -242,14 +242,14 @@ module _ (w : World) (f : Proved) where
 
   module _ {K : Type 0} {Γ : List (Item (𝓤 w))} {E : Env (𝓤 w) (H w)} where
     -- it is called, by the name k that means it in γ
-    pub calls : K → (γ : Bodies) (k : Name) → γ k ≡ f .routine → (x : Stated w p .Ghost) → ent (𝓤 w) (emp (𝓤 w)) (said-of w p (x .0 .0) (x .0 .3) .requires (x .1))
+    pub calls : K → (γ : Bodies) (k : Name) → γ k ≡ f .routine → (x : Stated w p .Ghost) → said-of w p (x .0 .0) (x .0 .3) .requires (x .1) ≡ emp (𝓤 w)
         → {q : Post (𝓤 w) (H w)} {xs : List Operand} {d : Place} {rest : Body} → Opds K (W w) (raw (Stated w p .pre x) ∷ Γ) E xs (Stated w p .args x)
         → ((r : Result w p x) (ws : Ends w p x) (v : Val) → Is (typeAt (p .ended .signature .result) (x .0 .0)) r (v ∷ [])
         → Seq K (W w) (raw (Holds w p x r ws) ∷ raw (Tokens w p x) ∷ ‵ (Back w p x r v) ∷ Γ) (lands (code w γ .C) (code w γ .Λ) E d v rest q))
         → Seq K (W w) (raw (Tokens w p x) ∷ ‵ (Passed w p x) ∷ Γ) (runs (code w γ .C) (code w γ .Λ) E (seq (call k xs d) rest) q)
     calls t γ k e x asks os after =
         let R = typeAt (p .ended .signature .result) (x .0 .0) in
-        use2 (W w) (raw (Stated w p .pre x)) (qed (W w) (raw (Tokens w p x) ∷ ‵ (Passed w p x) ∷ []) ∵ use0 (W w) (raw (said-of w p (x .0 .0) (x .0 .3) .requires (x .1))) asks $ move ! (1 ∷ 2 ∷ []) $ join ! $ done !) $
+        use2 (W w) (raw (Stated w p .pre x)) (qed (W w) (raw (Tokens w p x) ∷ ‵ (Passed w p x) ∷ []) ∵ use0 (W w) (raw (said-of w p (x .0 .0) (x .0 .3) .requires (x .1))) (subst (λ (P : SProp (𝓤 w)). ent (𝓤 w) (emp (𝓤 w)) P) (sym asks) (id⊢ (𝓤 w) (emp (𝓤 w)))) $ move ! (1 ∷ 2 ∷ []) $ join ! $ done !) $
         calls-at t (framed (𝓤 w) (H w) (w .model) (code w γ)) (Stated w p) (cited (𝓤 w) (H w) (Stated w p) (w .model) (w .running) γ k (f .routine) e (f .met (𝓤 w) (H w) (w .model) (w .ghosts) (w .running))) x os λ v.
         use1 (W w) (later (some (λ (r : Result w p x). (raw (Tokens w p x) ⊛ ‵ (Back w p x r v)) ⊛ some (λ (ws : Ends w p x). ‵ (lasts-of w p x ws) ⊛ raw (Holds w p x r ws))))) (id⊢ (𝓤 w) _) $ await t tt $ pick t λ r.
         split t $ move t (1 ∷ []) $ pick t λ ws. split t $ drop t $ move t (1 ∷ []) $ split t $ move t (1 ∷ []) $ peeks t R (Is R) (shows (𝓤 w) (H w) (A w) R) r (v ∷ []) λ is. move t (2 ∷ 1 ∷ []) $ after r ws v is

@@ -42,7 +42,7 @@ module _ (w : World) (κ : Lft) (q : Share) (d : MapItemIter) (c : Cursor) where
       returns ! (look ! 6 refl) $ gone ! 6 refl $ gone ! 4 refl $ gone ! 2 refl $ gone ! 0 refl $ free0 ! $
       -- [the tokens; what is passed]
       move ! (1 ∷ []) $ fsplit ! $ apart w α ! d $ move ! (2 ∷ []) $ fsplit ! $ move ! (2 ∷ 0 ∷ []) $ together w α ! (d .image) c $ keep ! (3 ∷ 0 ∷ []) $
-      suffices ! _ (ends w me x made (walk-val made) (tt, (tt, tt)) (tt, (tt, tt)) (tt, (tt, tt))) $ says ! refl $ done !
+      suffices ! _ (ends w me x made (walk-val made) _ _ _) $ says ! refl $ done !
 
 pub moved-spec : {M : Type 1} → stated.statement M
 unfolding code.routine

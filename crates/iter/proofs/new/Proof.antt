@@ -39,7 +39,7 @@ module _ (w : World) (κ : Lft) (q : Share) (s : RefT (List ℕ)) (c : Cursor) w
       returns ! (look ! 4 refl) $ gone ! 4 refl $ gone ! 2 refl $ gone ! 0 refl $ free0 ! $
       -- [the tokens; what is passed]
       move ! (1 ∷ []) $ fsplit ! $ move ! (1 ∷ []) $ fsplit ! $ move ! (2 ∷ 0 ∷ []) $ together w α ! s c $ keep ! (2 ∷ 0 ∷ []) $
-      suffices ! _ (ends w me x (walkAt s c) (walk-val (walkAt s c)) (tt, (tt, tt)) (tt, (tt, tt)) (tt, (tt, tt))) $ says ! refl $ done !
+      suffices ! _ (ends w me x (walkAt s c) (walk-val (walkAt s c)) _ _ _) $ says ! refl $ done !
 
 pub new-spec : {M : Type 1} → stated.statement M
 unfolding code.routine

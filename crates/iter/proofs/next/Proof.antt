@@ -4,7 +4,6 @@ use Prim.Native.Nat.{ℕ}
 use mathlib.Core.List.{[], _∷_}
 use mir.Syntax.{w64}
 use mir.Val.{vint}
-use base.Logic.{id⊢}
 use base.Fml.{Lft, Share}
 use types.Kit.{_$_, _∵_, !, move, suffices, fsplit, fjoin, done}
 use types.Part.{agg}
@@ -59,10 +58,10 @@ module _ (w : World) (κ : Lft) (q : Share) (d : MapItemIter) (n : ℕ) where
       move ! (17 ∷ []) $ fsplit ! $ apart w α ! d $ move ! (2 ∷ []) $ fsplit ! $
       -- [the page size; nothing; the image; the cursor; local 7; …; the tokens]
       move ! (3 ∷ 1 ∷ []) $ fjoin ! $ move ! (1 ∷ 0 ∷ []) $ fjoin ! $ move ! (1 ∷ 0 ∷ []) $ fjoin ! $ move ! (17 ∷ 0 ∷ []) $
-      calls w step ! code.env #map·next-item code.calls-map·next-item y (id⊢ (w .algebra) _) (and-then ! (held ! 1 refl) (and-then ! (held ! 11 refl) (and-then ! (held ! 9 refl) (no-more !)))) λ r ws v is.
+      calls w step ! code.env #map·next-item code.calls-map·next-item y refl (and-then ! (held ! 1 refl) (and-then ! (held ! 11 refl) (and-then ! (held ! 9 refl) (no-more !)))) λ r ws v is.
       heard ! (StepOk n (cursorOf d) (d .image .now) r) λ ok. land ! (from ! (stop !)) (init ! 16 refl (stepped .lawful w .typed r (v ∷ []) is .0)) $ returns ! (look ! 16 refl) $
       gone ! 16 refl $ gone ! 14 refl $ gone ! 12 refl $ gone ! 10 refl $ gone ! 8 refl $ gone ! 6 refl $ gone ! 4 refl $ gone ! 2 refl $ free0 ! $
-      suffices ! _ (ends w me x r v (tt, (tt, tt)) (tt, (tt, tt)) (tt, (tt, tt))) $ says ! ok $ done !
+      suffices ! _ (ends w me x r v _ _ _) $ says ! ok $ done !
 
 pub next-spec : {M : Type 1} → stated.statement M
 unfolding code.routine

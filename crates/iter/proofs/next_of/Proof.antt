@@ -4,7 +4,6 @@ use Prim.Native.Nat.{ℕ}
 use mathlib.Core.List.{List, [], _∷_}
 use mir.Syntax.{erased, w64}
 use mir.Val.{Val, vint}
-use base.Logic.{id⊢}
 use base.Fml.{Lft, Share}
 use types.Kit.{_$_, _∵_, !, move, suffices, fsplit, fjoin, done}
 use types.Run.{look, init, stop, from, and-then, no-more, land, returns, alloc1, alloc0, params1, pass1, pass0, free0}
@@ -58,14 +57,14 @@ module _ (w : World) (κ : Lft) (q : Share) (s : RefT (List ℕ)) (c : Cursor) (
       -- [local 4; …; the tokens; what is passed]: the image, the cursor, the page size
       move ! (11 ∷ []) $ fsplit ! $ move ! (1 ∷ []) $ fsplit ! $ nothing ! $ move ! (1 ∷ 0 ∷ []) $ fjoin ! $ move ! (2 ∷ 0 ∷ []) $ fjoin ! $ move ! (12 ∷ 0 ∷ []) $
       -- [the tokens; the image and the cursor; the page size; local 4; …]
-      calls w make ! code.env #iter·new code.calls-iter·new y (id⊢ (w .algebra) _) (and-then ! (held ! 8 refl) (and-then ! (held ! 6 refl) (no-more !))) λ d ws v is.
+      calls w make ! code.env #iter·new code.calls-iter·new y refl (and-then ! (held ! 8 refl) (and-then ! (held ! 6 refl) (no-more !))) λ d ws v is.
       heard ! (d ≡ walkAt s c) λ at. land ! (from ! (stop !)) (init ! 3 refl (walk (record { mir = erased; lft = κ }) .lawful w .typed d (v ∷ []) is .0)) $
       -- [the tokens; the walk; the page size; local 4; …]
       move ! (1 ∷ 2 ∷ []) $ fjoin ! $ move ! (1 ∷ 0 ∷ []) $
-      calls w step ! code.env #iter·next code.calls-iter·next (z d v) (id⊢ (w .algebra) _) (and-then ! (held ! 1 refl) (and-then ! (held ! 3 refl) (no-more !))) λ r us u ir.
+      calls w step ! code.env #iter·next code.calls-iter·next (z d v) refl (and-then ! (held ! 1 refl) (and-then ! (held ! 3 refl) (no-more !))) λ r us u ir.
       heard ! (StepOk n (cursorOf d) (d .image .now) r) λ ok. land ! (from ! (stop !)) (init ! 10 refl (stepped .lawful w .typed r (u ∷ []) ir .0)) $ returns ! (look ! 10 refl) $
       gone ! 10 refl $ gone ! 8 refl $ gone ! 6 refl $ gone ! 4 refl $ gone ! 2 refl $ free0 ! $
-      suffices ! _ (ends w me x r u (tt, (tt, (tt, tt))) (tt, (tt, (tt, tt))) (tt, (tt, (tt, tt)))) $ says ! (subst (λ (e : MapItemIter). StepOk n (cursorOf e) (e .image .now) r) at ok) $ done !
+      suffices ! _ (ends w me x r u _ _ _) $ says ! (subst (λ (e : MapItemIter). StepOk n (cursorOf e) (e .image .now) r) at ok) $ done !
 
 pub next-of-spec : {M : Type 1} → stated.statement M
 unfolding code.routine
