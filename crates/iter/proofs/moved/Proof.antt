@@ -2,7 +2,7 @@
 use mathlib.Core.Path.{refl}
 use mathlib.Core.List.{[], _∷_}
 use base.Fml.{Lft, Share}
-use types.Kit.{_$_, _∵_, !, move, keep, suffices, fsplit, done}
+use types.Kit.{_$_, _∵_, !, move, keep, suffices, done}
 use types.Part.{agg}
 use types.Run.{look, init, stop, from, of-opd, and-then, no-more, assigns, returns, alloc1, alloc0, params1, pass1, pass0, free0}
 use denote.Ref.{NamedLft}
@@ -40,8 +40,8 @@ module _ (w : World) (κ : Lft) (q : Share) (d : MapItemIter) (c : Cursor) where
       assigns ! (of-opd ! (part ! 4 refl tt)) (from ! (stop !)) (init ! 0 refl (tt, fit .0 .1 .0)) $
       assigns ! (agg ! (and-then ! (held ! 0 refl) (and-then ! (part ! 2 refl tt) (and-then ! (part ! 2 refl tt) (and-then ! (part ! 2 refl tt) (no-more !)))))) (from ! (stop !)) (init ! 6 refl (tt, (fit .0 .1 .0, fit .1 .0 .1))) $
       returns ! (look ! 6 refl) $ gone ! 6 refl $ gone ! 4 refl $ gone ! 2 refl $ gone ! 0 refl $ free0 ! $
-      -- [the tokens; what is passed]
-      move ! (1 ∷ []) $ fsplit ! $ apart w α ! d $ move ! (2 ∷ []) $ fsplit ! $ move ! (2 ∷ 0 ∷ []) $ together w α ! (d .image) c $ keep ! (3 ∷ 0 ∷ []) $
+      -- [the tokens; the walk; the cursor]
+      move ! (1 ∷ []) $ apart w α ! d $ move ! (0 ∷ 3 ∷ []) $ together w α ! (d .image) c $ keep ! (2 ∷ 0 ∷ []) $
       suffices ! _ (ends w me x made (walk-val made) _ _ _) $ says ! refl $ done !
 
 pub moved-spec : {M : Type 1} → stated.statement M

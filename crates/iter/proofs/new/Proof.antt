@@ -3,7 +3,7 @@ use mathlib.Core.Path.{refl}
 use Prim.Native.Nat.{ℕ}
 use mathlib.Core.List.{List, [], _∷_}
 use base.Fml.{Lft, Share}
-use types.Kit.{_$_, _∵_, !, move, keep, join, suffices, fsplit, done}
+use types.Kit.{_$_, _∵_, !, move, suffices, done}
 use types.Part.{agg}
 use types.Run.{look, init, stop, from, and-then, no-more, assigns, returns, alloc1, alloc0, params1, pass1, pass0, free0}
 use denote.Ref.{RefT, NamedLft}
@@ -37,8 +37,8 @@ module _ (w : World) (κ : Lft) (q : Share) (s : RefT (List ℕ)) (c : Cursor) w
       params1 ! $ pass1 ! (init ! 2 refl (fit .0)) $ pass1 ! (init ! 0 refl (fit .1 .0)) $ pass0 ! $
       assigns ! (agg ! (and-then ! (held ! 2 refl) (and-then ! (part ! 0 refl tt) (and-then ! (part ! 0 refl tt) (and-then ! (part ! 0 refl tt) (no-more !)))))) (from ! (stop !)) (init ! 4 refl (tt, (fit .0 .1, fit .1 .0 .1))) $
       returns ! (look ! 4 refl) $ gone ! 4 refl $ gone ! 2 refl $ gone ! 0 refl $ free0 ! $
-      -- [the tokens; what is passed]
-      move ! (1 ∷ []) $ fsplit ! $ move ! (1 ∷ []) $ fsplit ! $ move ! (2 ∷ 0 ∷ []) $ together w α ! s c $ keep ! (2 ∷ 0 ∷ []) $
+      -- [the tokens; the image; the cursor]
+      move ! (1 ∷ 2 ∷ []) $ together w α ! s c $ move ! (1 ∷ 0 ∷ []) $
       suffices ! _ (ends w me x (walkAt s c) (walk-val (walkAt s c)) _ _ _) $ says ! refl $ done !
 
 pub new-spec : {M : Type 1} → stated.statement M

@@ -5,7 +5,7 @@ use mathlib.Core.List.{[], _∷_}
 use mir.Syntax.{w64}
 use mir.Val.{vint}
 use base.Fml.{Lft, Share}
-use types.Kit.{_$_, _∵_, !, move, suffices, fsplit, fjoin, done}
+use types.Kit.{_$_, _∵_, !, move, suffices, done}
 use types.Part.{agg}
 use types.Run.{look, init, stop, from, of-opd, and-then, no-more, assigns, land, returns, alloc1, alloc0, params1, pass1, pass0, free0}
 use denote.Ref.{NamedLft}
@@ -21,7 +21,7 @@ use Rattle.map.proofs.next_item.Met.{met as next-item-met}
 use Rattle.iter.specs.declared.{MapItemIter.MapItemIter}
 use Rattle.iter.specs.Code.{cursorOf}
 use Rattle.iter.proofs.MapItemIter.Laws.{lowered as walk-val}
-use Rattle.iter.proofs.Hand.{World, world, number, stepped, walk, Promise, Stated, Way, begins, ends, proved, held, part, gone, Proved, calls, apart}
+use Rattle.iter.proofs.Hand.{World, world, number, stepped, walk, Promise, Stated, Way, begins, ends, proved, held, part, gone, Callee, calls, apart}
 use Rattle.iter.proofs.next.Key.{name as #iter·next}
 use Rattle.iter.proofs.next as next
 use Rattle.iter.proofs.next.Statement as stated
@@ -30,7 +30,7 @@ use Rattle.iter.proofs.next.Code as code
 abbrev me : Promise
 me = record { ended = next.ended; clauses = next.clauses }
 
-abbrev step : Proved
+abbrev step : Callee
 step = record { promise = record { ended = next-item.ended; clauses = next-item.clauses }; routine = next-item-routine; met = next-item-met }
 
 module _ (w : World) (κ : Lft) (q : Share) (d : MapItemIter) (n : ℕ) where
@@ -54,11 +54,9 @@ module _ (w : World) (κ : Lft) (q : Share) (d : MapItemIter) (n : ℕ) where
       assigns ! (of-opd ! (part ! 12 refl tt)) (from ! (stop !)) (init ! 2 refl (tt, fit .0 .1 .1 .1 .1 .0)) $
       assigns ! (agg ! (and-then ! (held ! 6 refl) (and-then ! (held ! 4 refl) (and-then ! (held ! 2 refl) (no-more !))))) (from ! (stop !)) (init ! 8 refl (tt, fit .0 .1 .1)) $
       assigns ! (of-opd ! (part ! 12 refl tt)) (from ! (stop !)) (init ! 0 refl (tt, fit .0 .1 .0)) $
-      -- [local 7; …; the tokens; what is passed]: the walk, and the page size
-      move ! (17 ∷ []) $ fsplit ! $ apart w α ! d $ move ! (2 ∷ []) $ fsplit ! $
-      -- [the page size; nothing; the image; the cursor; local 7; …; the tokens]
-      move ! (3 ∷ 1 ∷ []) $ fjoin ! $ move ! (1 ∷ 0 ∷ []) $ fjoin ! $ move ! (1 ∷ 0 ∷ []) $ fjoin ! $ move ! (17 ∷ 0 ∷ []) $
-      calls w step ! code.env #map·next-item code.calls-map·next-item y refl (and-then ! (held ! 1 refl) (and-then ! (held ! 11 refl) (and-then ! (held ! 9 refl) (no-more !)))) λ r ws v is.
+      -- [local 7; …; the tokens; the walk; the page size]
+      move ! (17 ∷ []) $ apart w α ! d $ move ! (18 ∷ 0 ∷ 19 ∷ 1 ∷ []) $
+      calls w step y ! code.env #map·next-item code.calls-map·next-item refl (and-then ! (held ! 1 refl) (and-then ! (held ! 11 refl) (and-then ! (held ! 9 refl) (no-more !)))) λ r ws v is.
       heard ! (StepOk n (cursorOf d) (d .image .now) r) λ ok. land ! (from ! (stop !)) (init ! 16 refl (stepped .lawful w .typed r (v ∷ []) is .0)) $ returns ! (look ! 16 refl) $
       gone ! 16 refl $ gone ! 14 refl $ gone ! 12 refl $ gone ! 10 refl $ gone ! 8 refl $ gone ! 6 refl $ gone ! 4 refl $ gone ! 2 refl $ free0 ! $
       suffices ! _ (ends w me x r v _ _ _) $ says ! ok $ done !
