@@ -38,7 +38,8 @@ module _ (w : World) (κ : Lft) (q : Share) (d : MapItemIter) (c : Cursor) where
       begins w me code.env code.function x ∵ alloc1 ! λ l₀. alloc1 ! λ l₁. alloc1 ! λ l₂. alloc1 ! λ l₃. alloc0 ! $
       params1 ! $ pass1 ! (init ! 4 refl (fit .0)) $ pass1 ! (init ! 2 refl (fit .1 .0)) $ pass0 ! $
       assigns ! (of-opd ! (part ! 4 refl tt)) (from ! (stop !)) (init ! 0 refl (tt, fit .0 .1 .0)) $
-      assigns ! (agg ! (and-then ! (held ! 0 refl) (and-then ! (part ! 2 refl tt) (and-then ! (part ! 2 refl tt) (and-then ! (part ! 2 refl tt) (no-more !)))))) (from ! (stop !)) (init ! 6 refl (tt, (fit .0 .1 .0, fit .1 .0 .1))) $
+      assigns ! (agg ! (and-then ! (held ! 0 refl) (and-then ! (part ! 2 refl tt) (and-then ! (part ! 2 refl tt) (and-then ! (part ! 2 refl tt) (no-more !))))))
+      (from ! (stop !)) (init ! 6 refl (tt, (fit .0 .1 .0, fit .1 .0 .1))) $
       returns ! (look ! 6 refl) $ gone ! 6 refl $ gone ! 4 refl $ gone ! 2 refl $ gone ! 0 refl $ free0 ! $
       -- [the tokens; the walk; the cursor]
       move ! (1 ∷ []) $ apart w α ! d $ move ! (0 ∷ 3 ∷ []) $ together w α ! (d .image) c $ keep ! (2 ∷ 0 ∷ []) $
@@ -46,4 +47,7 @@ module _ (w : World) (κ : Lft) (q : Share) (d : MapItemIter) (c : Cursor) where
 
 pub moved-spec : {M : Type 1} → stated.statement M
 unfolding code.routine
-moved-spec 𝓤 H 𝓜 𝓖 𝓡 = proved (world 𝓤 H 𝓜 𝓖 𝓡) me code.env code.function #iter·moved (code.unfolded 𝓤 H 𝓜 𝓡) (λ κs. (walk (namedLft 1 0 tt κs), (cursor, tt))) (λ x. way (world 𝓤 H 𝓜 𝓖 𝓡) (x .0 .0 .0) (x .0 .1 .0) (x .0 .3 .0) (x .0 .3 .1 .0))
+moved-spec 𝓤 H 𝓜 𝓖 𝓡 =
+    let w = world 𝓤 H 𝓜 𝓖 𝓡 in
+    proved w me code.env code.function #iter·moved (code.unfolded 𝓤 H 𝓜 𝓡) (λ κs. (walk (namedLft 1 0 tt κs), (cursor, tt)))
+    (λ x. way w (x .0 .0 .0) (x .0 .1 .0) (x .0 .3 .0) (x .0 .3 .1 .0))

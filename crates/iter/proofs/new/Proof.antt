@@ -35,7 +35,8 @@ module _ (w : World) (κ : Lft) (q : Share) (s : RefT (List ℕ)) (c : Cursor) w
   way fit =
       begins w me code.env code.function x ∵ alloc1 ! λ l₀. alloc1 ! λ l₁. alloc1 ! λ l₂. alloc0 ! $
       params1 ! $ pass1 ! (init ! 2 refl (fit .0)) $ pass1 ! (init ! 0 refl (fit .1 .0)) $ pass0 ! $
-      assigns ! (agg ! (and-then ! (held ! 2 refl) (and-then ! (part ! 0 refl tt) (and-then ! (part ! 0 refl tt) (and-then ! (part ! 0 refl tt) (no-more !)))))) (from ! (stop !)) (init ! 4 refl (tt, (fit .0 .1, fit .1 .0 .1))) $
+      assigns ! (agg ! (and-then ! (held ! 2 refl) (and-then ! (part ! 0 refl tt) (and-then ! (part ! 0 refl tt) (and-then ! (part ! 0 refl tt) (no-more !))))))
+      (from ! (stop !)) (init ! 4 refl (tt, (fit .0 .1, fit .1 .0 .1))) $
       returns ! (look ! 4 refl) $ gone ! 4 refl $ gone ! 2 refl $ gone ! 0 refl $ free0 ! $
       -- [the tokens; the image; the cursor]
       move ! (1 ∷ 2 ∷ []) $ together w α ! s c $ move ! (1 ∷ 0 ∷ []) $
@@ -43,4 +44,7 @@ module _ (w : World) (κ : Lft) (q : Share) (s : RefT (List ℕ)) (c : Cursor) w
 
 pub new-spec : {M : Type 1} → stated.statement M
 unfolding code.routine
-new-spec 𝓤 H 𝓜 𝓖 𝓡 = proved (world 𝓤 H 𝓜 𝓖 𝓡) me code.env code.function #iter·new (code.unfolded 𝓤 H 𝓜 𝓡) (λ κs. (image (namedLft 1 0 tt κs), (cursor, tt))) (λ x. way (world 𝓤 H 𝓜 𝓖 𝓡) (x .0 .0 .0) (x .0 .1 .0) (x .0 .3 .0) (x .0 .3 .1 .0))
+new-spec 𝓤 H 𝓜 𝓖 𝓡 =
+    let w = world 𝓤 H 𝓜 𝓖 𝓡 in
+    proved w me code.env code.function #iter·new (code.unfolded 𝓤 H 𝓜 𝓡) (λ κs. (image (namedLft 1 0 tt κs), (cursor, tt)))
+    (λ x. way w (x .0 .0 .0) (x .0 .1 .0) (x .0 .3 .0) (x .0 .3 .1 .0))

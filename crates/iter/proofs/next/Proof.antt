@@ -63,4 +63,7 @@ module _ (w : World) (κ : Lft) (q : Share) (d : MapItemIter) (n : ℕ) where
 
 pub next-spec : {M : Type 1} → stated.statement M
 unfolding code.routine
-next-spec 𝓤 H 𝓜 𝓖 𝓡 = proved (world 𝓤 H 𝓜 𝓖 𝓡) me code.env code.function #iter·next (code.unfolded 𝓤 H 𝓜 𝓡) (λ κs. (walk (namedLft 1 0 tt κs), (number, tt))) (λ x. way (world 𝓤 H 𝓜 𝓖 𝓡) (x .0 .0 .0) (x .0 .1 .0) (x .0 .3 .0) (x .0 .3 .1 .0))
+next-spec 𝓤 H 𝓜 𝓖 𝓡 =
+    let w = world 𝓤 H 𝓜 𝓖 𝓡 in
+    proved w me code.env code.function #iter·next (code.unfolded 𝓤 H 𝓜 𝓡) (λ κs. (walk (namedLft 1 0 tt κs), (number, tt)))
+    (λ x. way w (x .0 .0 .0) (x .0 .1 .0) (x .0 .3 .0) (x .0 .3 .1 .0))
