@@ -13,7 +13,7 @@ pub struct MapItemIter<'a> {
     pub place: usize,
 }
 
-// A walk from a cursor on, as map::fetch_all_items gives it.
+// A walk from a cursor, which map::fetch_all_items gives.
 pub fn new<'a>(image: &'a [u8], cursor: Cursor) -> MapItemIter<'a>
     ensures { λ r. ⌜ r ≡ walkAt (image .entry) cursor ⌝ }
 {
@@ -49,7 +49,7 @@ pub fn moved<'a>(walk: MapItemIter<'a>, cursor: Cursor) -> MapItemIter<'a>
     }
 }
 
-// A step of a walk from a cursor on: the one function here whose callers need no walk of their own.
+// A walk's next item, from any cursor. Its parameters are plain, so a caller needs no proof by hand.
 pub fn next_of(image: &[u8], cursor: Cursor, page_size: usize) -> Stepped
     ensures { λ r. ⌜ StepOk «page_size» cursor (now (image .entry)) r ⌝ }
 {
