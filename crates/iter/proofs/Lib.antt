@@ -1,0 +1,2 @@
+-- what the proofs by hand share
+pub mod Hand
