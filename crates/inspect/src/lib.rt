@@ -1,4 +1,12 @@
 // What a tool asks of an image: the first reason why it is not sound, and what the bytes of a page hold.
+ghost use mathlib.Core.Path.{_≡_};
+ghost use Prim.Native.Nat.{_+_, _^_, _≤_, _<_};
+ghost use lib.ListN.{length};
+ghost use Rattle.rules.specs.Held.{Held};
+ghost use Rattle.rules.specs.Pages.{allPages, dataAt, endAt, state, scanOf};
+ghost use Rattle.items.specs.Code.{part, scanIn};
+ghost use Rattle.inspect.specs.Faults.{notFF, apart, seen, secondPartial, openApart, dirty, firstDirty, dirtyFault, tailFault, blankFault, usedFault, pageFault, firstFault};
+ghost use Rattle.inspect.specs.Tallies.{more, tallyBy, tallyOf};
 use items::Read;
 use rules::Geo;
 use rules::Kind;
@@ -28,7 +36,10 @@ pub struct Tally {
 }
 
 // The first place from a up to e whose byte is not 0xFF; e if there is none.
-fn first_not_ff(img: &[u8], a: usize, e: usize) -> usize {
+fn first_not_ff(img: &[u8], a: usize, e: usize) -> usize
+    requires { ⌜ (a ≤ e) × (e ≤ length (now img)) ⌝ }
+    ensures { λ r. ⌜ r ≡ notFF a (part (now (img .entry)) a e) ⌝ }
+{
     let mut i = a;
     while i < e {
         if img[i] != 255 {
@@ -40,7 +51,10 @@ fn first_not_ff(img: &[u8], a: usize, e: usize) -> usize {
 }
 
 // The first PartialOpen page after page p, by number; the number of pages if there is none.
-fn second_partial(img: &[u8], g: Geo, p: usize) -> usize {
+fn second_partial(img: &[u8], g: Geo, p: usize) -> usize
+    requires { ⌜ Held g (length (now img)) × (p < g .pages) ⌝ }
+    ensures { λ r. ⌜ r ≡ secondPartial g (now (img .entry)) p ⌝ }
+{
     let n = g.pages;
     let mut q = p + 1;
     while q < n {
@@ -53,7 +67,9 @@ fn second_partial(img: &[u8], g: Geo, p: usize) -> usize {
 }
 
 // Is a page in this state an Open one after a Closed one?
-fn apart(closed: bool, s: PageState) -> bool {
+fn apart(closed: bool, s: PageState) -> bool
+    ensures { λ r. ⌜ r ≡ apart closed s ⌝ }
+{
     if closed {
         return ring::is(s, PageState::Open);
     }
@@ -61,7 +77,9 @@ fn apart(closed: bool, s: PageState) -> bool {
 }
 
 // Has a Closed page been seen, with this one?
-fn seen(closed: bool, s: PageState) -> bool {
+fn seen(closed: bool, s: PageState) -> bool
+    ensures { λ r. ⌜ r ≡ seen closed s ⌝ }
+{
     if closed {
         return true;
     }
@@ -69,7 +87,10 @@ fn seen(closed: bool, s: PageState) -> bool {
 }
 
 // The first Open page after a Closed one, in the ring from page p on; the number of pages if there is none.
-fn first_open_apart(img: &[u8], g: Geo, p: usize) -> usize {
+fn first_open_apart(img: &[u8], g: Geo, p: usize) -> usize
+    requires { ⌜ Held g (length (now img)) × (p < g .pages) ⌝ }
+    ensures { λ r. ⌜ r ≡ openApart g (now (img .entry)) p ⌝ }
+{
     let mut q = p;
     let mut m = g.pages;
     let mut closed = false;
@@ -86,7 +107,10 @@ fn first_open_apart(img: &[u8], g: Geo, p: usize) -> usize {
 }
 
 // Is page q Open, and not all of its data 0xFF?
-fn dirty(img: &[u8], g: Geo, q: usize) -> bool {
+fn dirty(img: &[u8], g: Geo, q: usize) -> bool
+    requires { ⌜ Held g (length (now img)) × (q < g .pages) ⌝ }
+    ensures { λ r. ⌜ r ≡ dirty g (now (img .entry)) q ⌝ }
+{
     if ring::page_is(img, g, q, PageState::Open) {
         let a = ring::data_at(g, q, img.len());
         let e = ring::end_at(g, q, img.len());
@@ -99,7 +123,10 @@ fn dirty(img: &[u8], g: Geo, q: usize) -> bool {
 }
 
 // The first such page; the number of pages if there is none.
-fn first_dirty(img: &[u8], g: Geo) -> usize {
+fn first_dirty(img: &[u8], g: Geo) -> usize
+    requires { ⌜ Held g (length (now img)) ⌝ }
+    ensures { λ r. ⌜ (r ≡ firstDirty g (now (img .entry)) (allPages g)) × (r ≤ g .pages) ⌝ }
+{
     let n = g.pages;
     let mut q: usize = 0;
     while q < n {
@@ -112,14 +139,20 @@ fn first_dirty(img: &[u8], g: Geo) -> usize {
 }
 
 // The fault of such a page.
-fn data_fault(img: &[u8], g: Geo, q: usize) -> Fault {
+fn data_fault(img: &[u8], g: Geo, q: usize) -> Fault
+    requires { ⌜ Held g (length (now img)) × (q < g .pages) ⌝ }
+    ensures { λ r. ⌜ r ≡ dirtyFault g (now (img .entry)) q ⌝ }
+{
     let a = ring::data_at(g, q, img.len());
     let e = ring::end_at(g, q, img.len());
     Fault::DataNotBlank(q, first_not_ff(img, a, e))
 }
 
 // The fault after the scan's end of page p.
-fn tail_fault(img: &[u8], g: Geo, p: usize) -> Fault {
+fn tail_fault(img: &[u8], g: Geo, p: usize) -> Fault
+    requires { ⌜ Held g (length (now img)) × (p < g .pages) ⌝ }
+    ensures { λ r. ⌜ r ≡ tailFault g (now (img .entry)) p ⌝ }
+{
     let a = ring::scan_end(img, g, p);
     let e = ring::end_at(g, p, img.len());
     if words::all_ff(&img[a..e]) {
@@ -129,7 +162,10 @@ fn tail_fault(img: &[u8], g: Geo, p: usize) -> Fault {
 }
 
 // The first fault of an image with no PartialOpen page.
-fn blank_fault(img: &[u8], g: Geo) -> Fault {
+fn blank_fault(img: &[u8], g: Geo) -> Fault
+    requires { ⌜ Held g (length (now img)) ⌝ }
+    ensures { λ r. ⌜ r ≡ blankFault g (now (img .entry)) ⌝ }
+{
     let n = g.pages;
     let c = ring::first(img, g, PageState::Closed);
     if c < n {
@@ -143,7 +179,10 @@ fn blank_fault(img: &[u8], g: Geo) -> Fault {
 }
 
 // The first fault of an image whose first PartialOpen page is p.
-fn used_fault(img: &[u8], g: Geo, p: usize) -> Fault {
+fn used_fault(img: &[u8], g: Geo, p: usize) -> Fault
+    requires { ⌜ Held g (length (now img)) × (p < g .pages) ⌝ }
+    ensures { λ r. ⌜ r ≡ usedFault g (now (img .entry)) p ⌝ }
+{
     let n = g.pages;
     let s = second_partial(img, g, p);
     if s < n {
@@ -165,7 +204,10 @@ fn used_fault(img: &[u8], g: Geo, p: usize) -> Fault {
 }
 
 // The first fault of an image whose sizes are accepted.
-fn page_fault(img: &[u8], g: Geo) -> Fault {
+fn page_fault(img: &[u8], g: Geo) -> Fault
+    requires { ⌜ Held g (length (now img)) ⌝ }
+    ensures { λ r. ⌜ r ≡ pageFault g (now (img .entry)) ⌝ }
+{
     let n = g.pages;
     let c = ring::first(img, g, PageState::Corrupted);
     if c < n {
@@ -179,7 +221,9 @@ fn page_fault(img: &[u8], g: Geo) -> Fault {
 }
 
 // The first fault of an image, for any sizes; Nothing tells that it is sound.
-pub fn first_fault(img: &[u8], page_size: usize) -> Fault {
+pub fn first_fault(img: &[u8], page_size: usize) -> Fault
+    ensures { λ r. ⌜ r ≡ firstFault 4 «page_size» (now (img .entry)) ⌝ }
+{
     let no = answer::number(answer::refusal(4, page_size, img.len(), 0, 0));
     if no != 0 {
         return Fault::Refused(no);
@@ -189,7 +233,10 @@ pub fn first_fault(img: &[u8], page_size: usize) -> Fault {
 }
 
 // A tally with n more bytes of this kind.
-fn add(t: Tally, k: Kind, n: usize) -> Tally {
+fn add(t: Tally, k: Kind, n: usize) -> Tally
+    requires { ⌜ t .present + t .removed + t .damaged + n < 2 ^ 64 ⌝ }
+    ensures { λ r. ⌜ r ≡ more t k n ⌝ }
+{
     let s = t.state;
     match k {
         Kind::Present => Tally {
@@ -216,20 +263,11 @@ fn add(t: Tally, k: Kind, n: usize) -> Tally {
     }
 }
 
-// A tally with this many free bytes.
-fn with_free(t: Tally, n: usize) -> Tally {
-    let s = t.state;
-    Tally {
-        state: s,
-        present: t.present,
-        removed: t.removed,
-        damaged: t.damaged,
-        free: n,
-    }
-}
-
 // The tally of the data area from a up to e, in a page of this state.
-fn tally_in(img: &[u8], a: usize, e: usize, w: usize, state: PageState) -> Tally {
+fn tally_in(img: &[u8], a: usize, e: usize, w: usize, state: PageState) -> Tally
+    requires { ⌜ (a ≤ e) × (e ≤ length (now img)) × (4 ≤ w) × (w ≤ 8) ⌝ }
+    ensures { λ r. ⌜ r ≡ tallyBy w state a e (scanIn w (now (img .entry)) a e) ⌝ }
+{
     let mut at = a;
     let mut t = Tally {
         state,
@@ -242,7 +280,13 @@ fn tally_in(img: &[u8], a: usize, e: usize, w: usize, state: PageState) -> Tally
         let r = items::look_at(img, at, e, w);
         match r {
             Read::End => {
-                return with_free(t, e - at);
+                return Tally {
+                    state,
+                    present: t.present,
+                    removed: t.removed,
+                    damaged: t.damaged,
+                    free: e - at,
+                };
             }
             Read::Skip => {
                 t = add(t, Kind::Damaged, w);
@@ -260,7 +304,10 @@ fn tally_in(img: &[u8], a: usize, e: usize, w: usize, state: PageState) -> Tally
 }
 
 // The tally of page p.
-fn tally_of(img: &[u8], g: Geo, p: usize) -> Tally {
+fn tally_of(img: &[u8], g: Geo, p: usize) -> Tally
+    requires { ⌜ Held g (length (now img)) × (p < g .pages) ⌝ }
+    ensures { λ r. ⌜ r ≡ tallyBy (g .word) (state g (now (img .entry)) p) (dataAt g p) (endAt g p) (scanOf g (now (img .entry)) p) ⌝ }
+{
     let s = ring::state(img, g, p);
     let a = ring::data_at(g, p, img.len());
     let e = ring::end_at(g, p, img.len());
@@ -268,7 +315,9 @@ fn tally_of(img: &[u8], g: Geo, p: usize) -> Tally {
 }
 
 // The tally of page p, for any sizes: Open and zeros where they are refused, or there is no page p.
-pub fn tally_page(img: &[u8], page_size: usize, p: usize) -> Tally {
+pub fn tally_page(img: &[u8], page_size: usize, p: usize) -> Tally
+    ensures { λ r. ⌜ r ≡ tallyOf 4 «page_size» (now (img .entry)) p ⌝ }
+{
     let none = Tally {
         state: PageState::Open,
         present: 0,

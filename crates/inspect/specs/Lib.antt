@@ -1,0 +1,4 @@
+-- the first fault of an image
+pub mod Faults
+-- the tally of a page
+pub mod Tallies
