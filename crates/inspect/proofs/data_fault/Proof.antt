@@ -1,28 +1,13 @@
+use native.Mathlib.Omega.{arith}
+use Rattle.inspect.proofs.Laws.{area-is}
 use borrow.Author.Needs.{needs}
 use Rattle.inspect.proofs.data_fault.Statement.{statement}
 use Rattle.inspect.proofs.data_fault.Tie as tie
-use Rattle.inspect.proofs.data_fault.Reads as reads
-use Rattle.inspect.proofs.data_fault.Lts as lts
-use Rattle.inspect.proofs.first_not_ff.Reads as first-not-ff-reads
-use Rattle.ring.proofs.data_at.Reads as data-at-reads
-use Rattle.ring.proofs.end_at.Reads as end-at-reads
 
--- src/lib.rt:146:9
-data-at-requires : tie.Need-data-at-requires
-data-at-requires c κs = search needs
-
--- src/lib.rt:147:9
-end-at-requires : tie.Need-end-at-requires
-end-at-requires c κs = search needs
-
--- src/lib.rt:148:28
-first-not-ff-requires : tie.Need-first-not-ff-requires
-first-not-ff-requires c κs = search needs
-
--- src/lib.rt:142:1
 returns : tie.Need-returns
-returns c = ?
+returns c = let a = c .before .before .before .before .args in rw (c .first-not-ff .ensures, area-is (a .g) (a .img .now) (a .q) (c .before .before .data-at .result) (c .before .end-at .result) (c .before .before .data-at .ensures .0) (c .before .end-at .ensures .0) (omega arith), c .before .before .data-at .ensures .0)
 
 pub data-fault-spec : {M : Type 1} → statement M
 data-fault-spec =
-    tie.close (tie.spec data-at-requires end-at-requires first-not-ff-requires returns)
+    tie.close (tie.spec
+    (λ c κs. search needs) (λ c κs. search needs) (λ c κs. search needs) returns)

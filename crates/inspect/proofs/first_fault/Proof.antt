@@ -1,44 +1,21 @@
+use Rattle.inspect.proofs.Laws.{held, page-some, fault-refused, fault-is}
 use borrow.Author.Needs.{needs}
 use Rattle.inspect.proofs.first_fault.Statement.{statement}
 use Rattle.inspect.proofs.first_fault.Tie as tie
-use Rattle.inspect.proofs.first_fault.Reads as reads
-use Rattle.inspect.proofs.first_fault.Lts as lts
-use Rattle.answer.proofs.geometry.Reads as geometry-reads
-use Rattle.answer.proofs.number.Reads as number-reads
-use Rattle.answer.proofs.refusal.Reads as refusal-reads
-use Rattle.inspect.proofs.page_fault.Reads as page-fault-reads
 
--- src/lib.rt:227:29
-refusal-requires : tie.Need-refusal-requires
-refusal-requires c κs = search needs
-
--- src/lib.rt:227:9
-number-requires : tie.Need-number-requires
-number-requires c κs = search needs
-
--- src/lib.rt:229:9
 returns : tie.Need-returns
-returns c = ?
+returns c = let a = c .before .before .before .before .args in fault-refused (a .page-size) (a .img .now) (c .before .before .refusal .result) (c .before .number .result) (c .before .before .refusal .ensures) (c .before .number .ensures) (c .if1 .taken)
 
--- src/lib.rt:231:9
 geometry-requires : tie.Need-geometry-requires
-geometry-requires c κs = ?
+geometry-requires c κs = let a = c .before .before .before .before .args in page-some (a .page-size) (a .img .now) (c .before .before .refusal .result) (c .before .number .result) (c .before .before .refusal .ensures) (c .before .number .ensures) (c .if1 .left)
 
--- src/lib.rt:232:5
 page-fault-requires : tie.Need-page-fault-requires
-page-fault-requires c κs = ?
+page-fault-requires c κs = let a = c .before .before .before .before .before .args in held (a .page-size) (a .img .now) (c .before .before .before .refusal .result) (c .before .before .number .result) (c .before .before .before .refusal .ensures) (c .before .before .number .ensures) (c .before .if1 .left) (c .geometry .result) (c .geometry .ensures)
 
--- src/lib.rt:224:1
 returns-2 : tie.Need-returns-2
-returns-2 c = ?
+returns-2 c = let a = c .before .before .before .before .before .before .args in fault-is (a .page-size) (a .img .now) (c .before .before .before .before .refusal .result) (c .before .before .before .number .result) (c .before .before .before .before .refusal .ensures) (c .before .before .before .number .ensures) (c .before .before .if1 .left) (c .before .geometry .result) (c .before .geometry .ensures) (c .page-fault .result) (c .page-fault .ensures)
 
 pub first-fault-spec : {M : Type 1} → statement M
 first-fault-spec =
-    tie.close
-    (tie.spec
-    refusal-requires
-    number-requires
-    returns
-    geometry-requires
-    page-fault-requires
-    returns-2)
+    tie.close (tie.spec
+    (λ c κs. search needs) (λ c κs. search needs) returns geometry-requires page-fault-requires returns-2)

@@ -8,12 +8,6 @@ use Rattle.inspect.proofs.Laws.{apart-none, apart-here, apart-on}
 use borrow.Author.Needs.{needs}
 use Rattle.inspect.proofs.first_open_apart.Statement.{statement}
 use Rattle.inspect.proofs.first_open_apart.Tie as tie
-use Rattle.inspect.proofs.first_open_apart.Reads as reads
-use Rattle.inspect.proofs.first_open_apart.Lts as lts
-use Rattle.inspect.proofs.apart.Reads as apart-reads
-use Rattle.inspect.proofs.seen.Reads as seen-reads
-use Rattle.ring.proofs.next.Reads as next-reads
-use Rattle.ring.proofs.state.Reads as state-reads
 
 abbrev Inv-loop : tie.InvT-loop
 Inv-loop img g p q₀ m₀ closed₀ q m closed = (q < g .pages) × (openAfter g img closed (ups g m q) ≡ openApart g img p)
@@ -21,59 +15,20 @@ Inv-loop img g p q₀ m₀ closed₀ q m closed = (q < g .pages) × (openAfter g
 abbrev μ-loop : tie.MeasureT-loop
 μ-loop img g p q₀ m₀ closed₀ q m closed = m
 
--- src/lib.rt:97:5
 loop-holds : tie.Need-loop-holds Inv-loop μ-loop
 loop-holds c = let a = c .before .args in (omega arith, rw (up-is (a .g) (a .p) (omega arith)))
 
--- src/lib.rt:98:13
-state-requires : tie.Need-state-requires Inv-loop μ-loop
-state-requires c κs = search needs
-
--- src/lib.rt:99:12
-apart-requires : tie.Need-apart-requires Inv-loop μ-loop
-apart-requires c κs = search needs
-
--- src/lib.rt:100:13
 returns : tie.Need-returns Inv-loop μ-loop
 returns c = let a = c .before .before .before .before .before .before .args in let l = c .before .before .before .before .loop in apart-here (a .g) (a .img .now) (l .q) (l .m) (l .closed) _ (l .inv .1) (c .before .before .state .result) (c .before .apart .result) (c .before .before .before .loop-test .taken) (c .before .before .state .ensures) (c .before .apart .ensures) (c .if1 .taken)
 
--- src/lib.rt:102:9
-seen-requires : tie.Need-seen-requires Inv-loop μ-loop
-seen-requires c κs = search needs
-
--- src/lib.rt:103:9
-next-requires : tie.Need-next-requires Inv-loop μ-loop
-next-requires c κs = search needs
-
--- src/lib.rt:104:9
-sub-m : tie.Need-sub-m Inv-loop μ-loop
-sub-m c = search needs
-
--- src/lib.rt:97:5
-loop-less : tie.Need-loop-less Inv-loop μ-loop
-loop-less c = search needs
-
--- src/lib.rt:97:5
 loop-again : tie.Need-loop-again Inv-loop μ-loop
 loop-again c = let a = c .before .before .before .before .before .before .before .before .args in let l = c .before .before .before .before .before .before .loop in (omega arith, apart-on (a .g) (a .img .now) (l .q) (l .m) (l .closed) _ (l .inv .1) (c .before .before .before .before .state .result) (c .before .before .before .apart .result) (c .before .before .before .before .before .loop-test .taken) (c .before .before .before .before .state .ensures) (c .before .before .before .apart .ensures) (c .before .before .if1 .left) (c .before .seen .result) (c .next .result) (c .before .seen .ensures) (c .next .ensures .0))
 
--- src/lib.rt:90:1
 returns-2 : tie.Need-returns-2 Inv-loop μ-loop
 returns-2 c = let a = c .before .before .before .args in let l = c .before .loop in apart-none (a .g) (a .img .now) (l .q) (l .m) (l .closed) _ (l .inv .1) (c .loop-test .left)
 
 pub first-open-apart-spec : {M : Type 1} → statement M
 first-open-apart-spec =
-    tie.close
-    (tie.spec
-    Inv-loop
-    μ-loop
-    loop-holds
-    state-requires
-    apart-requires
-    returns
-    seen-requires
-    next-requires
-    sub-m
-    loop-less
-    loop-again
-    returns-2)
+    tie.close (tie.spec
+    Inv-loop μ-loop loop-holds (λ c κs. search needs) (λ c κs. search needs) returns (λ c κs. search needs) (λ c κs. search needs)
+    (λ c. search needs) (λ c. search needs) loop-again returns-2)

@@ -1,127 +1,61 @@
+use native.Mathlib.Omega.{arith}
+use Prim.Native.Nat.{_-_}
+use Rattle.inspect.proofs.Counts.{Counted, counted-start, counted-none, counted-end, counted-skip, counted-item}
+use Rattle.items.proofs.Laws.{long-part}
 use borrow.Author.Needs.{needs}
 use Rattle.inspect.proofs.tally_in.Statement.{statement}
 use Rattle.inspect.proofs.tally_in.Tie as tie
-use Rattle.inspect.proofs.tally_in.Reads as reads
-use Rattle.inspect.proofs.tally_in.Lts as lts
-use Rattle.inspect.proofs.add.Reads as add-reads
-use Rattle.items.proofs.kind.Reads as kind-reads
-use Rattle.items.proofs.look_at.Reads as look-at-reads
-use Rattle.words.proofs.size.Reads as size-reads
 
 abbrev Inv-loop : tie.InvT-loop
-Inv-loop img a e w state at₀ t₀ at t = ?
+Inv-loop img a e w state at₀ t₀ at t = Counted w img a e state at t
 
 abbrev μ-loop : tie.MeasureT-loop
-μ-loop img a e w state at₀ t₀ at t = ?
+μ-loop img a e w state at₀ t₀ at t = e - at
 
--- src/lib.rt:279:5
 loop-holds : tie.Need-loop-holds Inv-loop μ-loop
-loop-holds c = ?
+loop-holds c = let a = c .before .args in counted-start (a .w) (omega arith) (omega arith) (a .img .now) (a .a) (a .e) (omega arith) (a .state) (omega arith)
 
--- src/lib.rt:280:13
-look-at-requires : tie.Need-look-at-requires Inv-loop μ-loop
-look-at-requires c κs = ?
-
--- src/lib.rt:288:27
-enum-told : tie.Need-enum-told Inv-loop μ-loop
-enum-told c = ?
-
--- src/lib.rt:288:27
-sub-t12 : tie.Need-sub-t12 Inv-loop μ-loop
-sub-t12 c = ?
-
--- src/lib.rt:283:17
 returns : tie.Need-returns Inv-loop μ-loop
-returns c = ?
+returns c = let a = c .before .before .before .before .before .before .args in let l = c .before .before .before .before .loop in counted-end (a .w) (omega arith) (omega arith) (a .img .now) (a .a) (a .e) (omega arith) (a .state) (l .at) (l .t) (l .inv) (c .before .before .look-at .result) (c .before .before .before .loop-test .taken) (c .before .before .look-at .ensures .0) (c .enum-told .given .1)
 
--- src/lib.rt:292:28
-enum-told-2 : tie.Need-enum-told-2 Inv-loop μ-loop
-enum-told-2 c = ?
-
--- src/lib.rt:292:17
 add-requires : tie.Need-add-requires Inv-loop μ-loop
-add-requires c κs = ?
+add-requires c κs = let f = rw (c .enum-told2 .given .1) at (c .before .before .look-at .ensures .1) in let i = c .before .before .before .before .loop .inv in omega arith
 
--- src/lib.rt:293:17
 add-at : tie.Need-add-at Inv-loop μ-loop
-add-at c = ?
+add-at c = let f = rw (c .before .enum-told2 .given .1) at (c .before .before .before .look-at .ensures .1) in omega arith
 
--- src/lib.rt:279:5
-loop-less : tie.Need-loop-less Inv-loop μ-loop
-loop-less c = ?
-
--- src/lib.rt:279:5
 loop-again : tie.Need-loop-again Inv-loop μ-loop
-loop-again c = ?
+loop-again c =
+    let a = c .before .before .before .before .before .before .before .args in
+    let l = c .before .before .before .before .before .loop in
+    let f = rw (c .before .enum-told2 .given .1) at (c .before .before .before .look-at .ensures .1) in
+    rw (c .add .ensures) (counted-skip (a .w) (omega arith) (omega arith) (a .img .now) (a .a) (a .e) (omega arith) (a .state) (l .at) (l .t) (l .inv) (c .before .before .before .look-at .result) (c .before .before .before .before .loop-test .taken) (c .before .before .before .look-at .ensures .0) (c .before .enum-told2 .given .1) f)
 
--- src/lib.rt:296:24
-enum-known-r : tie.Need-enum-known-r Inv-loop μ-loop
-enum-known-r c = ?
-
--- src/lib.rt:297:21
 size-requires : tie.Need-size-requires Inv-loop μ-loop
-size-requires c κs = ?
+size-requires c κs = let f = rw (c .before .r .given .1) at (c .before .before .before .look-at .ensures .1) in omega arith
 
--- src/lib.rt:298:40
-sub-kind : tie.Need-sub-kind Inv-loop μ-loop
-sub-kind c = ?
-
--- src/lib.rt:298:40
-part-kind-start : tie.Need-part-kind-start Inv-loop μ-loop
-part-kind-start c = ?
-
--- src/lib.rt:298:40
-part-kind-end : tie.Need-part-kind-end Inv-loop μ-loop
-part-kind-end c = ?
-
--- src/lib.rt:298:28
 kind-requires : tie.Need-kind-requires Inv-loop μ-loop
-kind-requires c κs = ?
+kind-requires c κs = let a = c .before .before .before .before .before .before .before .before .before .args in let f = rw (c .before .before .before .r .given .1) at (c .before .before .before .before .before .look-at .ensures .1) in let l = long-part (a .img .now) (c .before .before .before .before .before .before .before .loop .at) (a .e) (omega arith) in omega arith
 
--- src/lib.rt:298:17
 add-requires-2 : tie.Need-add-requires-2 Inv-loop μ-loop
-add-requires-2 c κs = ?
+add-requires-2 c κs = let f = rw (c .before .before .before .before .r .given .1) at (c .before .before .before .before .before .before .look-at .ensures .1) in let i = c .before .before .before .before .before .before .before .before .loop .inv in omega arith
 
--- src/lib.rt:299:17
 add-at-2 : tie.Need-add-at-2 Inv-loop μ-loop
-add-at-2 c = ?
+add-at-2 c = let f = rw (c .before .before .before .before .before .r .given .1) at (c .before .before .before .before .before .before .before .look-at .ensures .1) in omega arith
 
--- src/lib.rt:279:5
-loop-less-2 : tie.Need-loop-less-2 Inv-loop μ-loop
-loop-less-2 c = ?
-
--- src/lib.rt:279:5
 loop-again-2 : tie.Need-loop-again-2 Inv-loop μ-loop
-loop-again-2 c = ?
+loop-again-2 c =
+    let a = c .before .before .before .before .before .before .before .before .before .before .before .args in
+    let l = c .before .before .before .before .before .before .before .before .before .loop in
+    let f = rw (c .before .before .before .before .before .r .given .1) at (c .before .before .before .before .before .before .before .look-at .ensures .1) in
+    rw (c .add2 .ensures, c .before .kind .ensures, c .before .before .before .size .ensures .0) (counted-item (a .w) (omega arith) (omega arith) (a .img .now) (a .a) (a .e) (omega arith) (a .state) (l .at) (l .t) (l .inv) (c .before .before .before .before .before .before .before .look-at .result) (c .before .before .before .before .before .before .before .before .loop-test .taken) (c .before .before .before .before .before .before .before .look-at .ensures .0) (c .before .before .before .before .before .r .given .0 .0) (c .before .before .before .before .before .r .given .1) (f .0))
 
--- src/lib.rt:267:1
 returns-2 : tie.Need-returns-2 Inv-loop μ-loop
-returns-2 c = ?
+returns-2 c = let a = c .before .before .before .args in let l = c .before .loop in counted-none (a .w) (omega arith) (omega arith) (a .img .now) (a .a) (a .e) (omega arith) (a .state) (l .at) (l .t) (l .inv) (c .loop-test .left)
 
 pub tally-in-spec : {M : Type 1} → statement M
 tally-in-spec =
-    tie.close
-    (tie.spec
-    Inv-loop
-    μ-loop
-    loop-holds
-    look-at-requires
-    enum-told
-    sub-t12
-    returns
-    enum-told-2
-    add-requires
-    add-at
-    loop-less
-    loop-again
-    enum-known-r
-    size-requires
-    sub-kind
-    part-kind-start
-    part-kind-end
-    kind-requires
-    add-requires-2
-    add-at-2
-    loop-less-2
-    loop-again-2
-    returns-2)
+    tie.close (tie.spec
+    Inv-loop μ-loop loop-holds (λ c κs. search needs) (λ c. search needs) (λ c. search needs) returns (λ c. search needs) add-requires add-at
+    (λ c. search needs) loop-again (λ c. search needs) size-requires (λ c. search needs) (λ c. search needs) (λ c. search needs) kind-requires
+    add-requires-2 add-at-2 (λ c. search needs) loop-again-2 returns-2)

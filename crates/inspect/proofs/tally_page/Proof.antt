@@ -1,49 +1,24 @@
+use Rattle.inspect.proofs.Laws.{held, page-some, tally-refused, tally-none, tally-is}
 use borrow.Author.Needs.{needs}
 use Rattle.inspect.proofs.tally_page.Statement.{statement}
 use Rattle.inspect.proofs.tally_page.Tie as tie
-use Rattle.inspect.proofs.tally_page.Reads as reads
-use Rattle.inspect.proofs.tally_page.Lts as lts
-use Rattle.answer.proofs.geometry.Reads as geometry-reads
-use Rattle.answer.proofs.number.Reads as number-reads
-use Rattle.answer.proofs.refusal.Reads as refusal-reads
-use Rattle.inspect.proofs.tally_of.Reads as tally-of-reads
 
--- src/lib.rt:328:23
-refusal-requires : tie.Need-refusal-requires
-refusal-requires c κs = search needs
-
--- src/lib.rt:328:8
-number-requires : tie.Need-number-requires
-number-requires c κs = search needs
-
--- src/lib.rt:329:9
 returns : tie.Need-returns
-returns c = ?
+returns c = let a = c .before .before .before .before .args in tally-refused (a .page-size) (a .img .now) (c .before .before .refusal .result) (c .before .number .result) (c .before .before .refusal .ensures) (c .before .number .ensures) (c .if1 .taken) (a .p)
 
--- src/lib.rt:331:9
 geometry-requires : tie.Need-geometry-requires
-geometry-requires c κs = ?
+geometry-requires c κs = let a = c .before .before .before .before .args in page-some (a .page-size) (a .img .now) (c .before .before .refusal .result) (c .before .number .result) (c .before .before .refusal .ensures) (c .before .number .ensures) (c .if1 .left)
 
--- src/lib.rt:333:9
 returns-2 : tie.Need-returns-2
-returns-2 c = ?
+returns-2 c = let a = c .before .before .before .before .before .before .before .args in tally-none (a .page-size) (a .img .now) (c .before .before .before .before .before .refusal .result) (c .before .before .before .before .number .result) (c .before .before .before .before .before .refusal .ensures) (c .before .before .before .before .number .ensures) (c .before .before .before .if1 .left) (c .before .before .geometry .result) (c .before .before .geometry .ensures) (a .p) (c .if2 .taken)
 
--- src/lib.rt:335:5
 tally-of-requires : tie.Need-tally-of-requires
-tally-of-requires c κs = ?
+tally-of-requires c κs = let a = c .before .before .before .before .before .before .before .args in (held (a .page-size) (a .img .now) (c .before .before .before .before .before .refusal .result) (c .before .before .before .before .number .result) (c .before .before .before .before .before .refusal .ensures) (c .before .before .before .before .number .ensures) (c .before .before .before .if1 .left) (c .before .before .geometry .result) (c .before .before .geometry .ensures), c .if2 .left)
 
--- src/lib.rt:318:1
 returns-3 : tie.Need-returns-3
-returns-3 c = ?
+returns-3 c = let a = c .before .before .before .before .before .before .before .before .args in tally-is (a .page-size) (a .img .now) (c .before .before .before .before .before .before .refusal .result) (c .before .before .before .before .before .number .result) (c .before .before .before .before .before .before .refusal .ensures) (c .before .before .before .before .before .number .ensures) (c .before .before .before .before .if1 .left) (c .before .before .before .geometry .result) (c .before .before .before .geometry .ensures) (a .p) (c .before .if2 .left) (c .tally-of .result) (c .tally-of .ensures)
 
 pub tally-page-spec : {M : Type 1} → statement M
 tally-page-spec =
-    tie.close
-    (tie.spec
-    refusal-requires
-    number-requires
-    returns
-    geometry-requires
-    returns-2
-    tally-of-requires
-    returns-3)
+    tie.close (tie.spec
+    (λ c κs. search needs) (λ c κs. search needs) returns geometry-requires returns-2 tally-of-requires returns-3)
