@@ -19,7 +19,7 @@ use Rattle.laws.specs.Geometry.{accepted, held-of, zero-done}
 use Rattle.items.specs.Code.{part}
 use Rattle.ring.specs.Code.{ups}
 use Rattle.inspect.specs.declared.{Fault.Fault, Fault.the-variants.Refused, Tally.Tally}
-use Rattle.inspect.specs.Faults.{notFF, apart, seen, openAfter, dirty, firstDirty, pageFault, firstFault}
+use Rattle.inspect.specs.Faults.{notFF, apart, seen, openAfter, dirty, firstBy, pageFault, firstFault}
 use Rattle.inspect.specs.Tallies.{tallyBy, noTally, tallyOf}
 
 -- the first byte from place i on that is not 0xFF
@@ -73,10 +73,10 @@ module _ (G : Geo) (img : List ℕ) (q : ℕ) (h : q < G .pages) where
   y : suc q ≡ q + 1
   y = omega arith
 
-  pub dirty-here : dirty G img q ≡ true → firstDirty G img (upFrom q (G .pages - q)) ≡ q
+  pub dirty-here : dirty G img q ≡ true → firstBy G (dirty G img) (upFrom q (G .pages - q)) ≡ q
   dirty-here e = rw (z, e)
 
-  pub dirty-on : dirty G img q ≡ false → firstDirty G img (upFrom q (G .pages - q)) ≡ firstDirty G img (upFrom (q + 1) (G .pages - (q + 1)))
+  pub dirty-on : dirty G img q ≡ false → firstBy G (dirty G img) (upFrom q (G .pages - q)) ≡ firstBy G (dirty G img) (upFrom (q + 1) (G .pages - (q + 1)))
   dirty-on e = rw (z, e, y)
 
 -- sizes that are not refused, by the refusal's number

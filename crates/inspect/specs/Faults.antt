@@ -45,9 +45,13 @@ module _ (G : Geo) where
   abbrev pub dirty : List ℕ → ℕ → Bool
   dirty img q = both (same Open (state G img q)) (not (blankAt img (dataAt G q) (areaLen G)))
 
-  abbrev pub firstDirty : List ℕ → List ℕ → ℕ
-  firstDirty img [] = G .pages
-  firstDirty img (q ∷ qs) = let r = firstDirty img qs in pick (dirty img q) q r
+  -- the first page of a list that passes a test
+  abbrev pub firstBy : (ℕ → Bool) → List ℕ → ℕ
+  firstBy f [] = G .pages
+  firstBy f (q ∷ qs) = let r = firstBy f qs in pick (f q) q r
+
+  abbrev pub firstDirty : List ℕ → ℕ
+  firstDirty img = firstBy (dirty img) (allPages G)
 
   -- the first byte of page q's data that is not 0xFF
   abbrev pub dirtyFault : List ℕ → ℕ → Fault
@@ -56,7 +60,7 @@ module _ (G : Geo) where
   -- the first such byte of an Open page, else r
   abbrev pub dataFault : List ℕ → Fault → Fault
   dataFault img r =
-      let d = firstDirty img (allPages G) in
+      let d = firstDirty img in
       pick (isPage G d) (dirtyFault img d) r
 
   -- the first byte after the scan's end of page p that is not 0xFF

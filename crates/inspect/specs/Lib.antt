@@ -2,3 +2,5 @@
 pub mod Faults
 -- the tally of a page
 pub mod Tallies
+-- laws of both
+pub mod Firsts

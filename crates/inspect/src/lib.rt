@@ -3,7 +3,7 @@ ghost use mathlib.Core.Path.{_≡_};
 ghost use Prim.Native.Nat.{_+_, _^_, _≤_, _<_};
 ghost use lib.ListN.{length};
 ghost use Rattle.rules.specs.Held.{Held};
-ghost use Rattle.rules.specs.Pages.{allPages, dataAt, endAt, state, scanOf};
+ghost use Rattle.rules.specs.Pages.{dataAt, endAt, state, scanOf};
 ghost use Rattle.items.specs.Code.{part, scanIn};
 ghost use Rattle.inspect.specs.Faults.{notFF, apart, seen, secondPartial, openApart, dirty, firstDirty, dirtyFault, tailFault, blankFault, usedFault, pageFault, firstFault};
 ghost use Rattle.inspect.specs.Tallies.{more, tallyBy, tallyOf};
@@ -125,7 +125,7 @@ fn dirty(img: &[u8], g: Geo, q: usize) -> bool
 // The first such page; the number of pages if there is none.
 fn first_dirty(img: &[u8], g: Geo) -> usize
     requires { ⌜ Held g (length (now img)) ⌝ }
-    ensures { λ r. ⌜ (r ≡ firstDirty g (now (img .entry)) (allPages g)) × (r ≤ g .pages) ⌝ }
+    ensures { λ r. ⌜ (r ≡ firstDirty g (now (img .entry))) × (r ≤ g .pages) ⌝ }
 {
     let n = g.pages;
     let mut q: usize = 0;

@@ -1,15 +1,15 @@
 use native.Mathlib.Omega.{arith}
 use mathlib.Core.Path.{_≡_, refl, sym, _∙_}
 use Prim.Native.Nat.{_-_, _≤_}
-use Rattle.rules.specs.Pages.{upFrom, allPages}
-use Rattle.inspect.specs.Faults.{firstDirty}
+use Rattle.rules.specs.Pages.{upFrom}
+use Rattle.inspect.specs.Faults.{dirty, firstBy, firstDirty}
 use Rattle.inspect.proofs.Laws.{dirty-here, dirty-on}
 use borrow.Author.Needs.{needs}
 use Rattle.inspect.proofs.first_dirty.Statement.{statement}
 use Rattle.inspect.proofs.first_dirty.Tie as tie
 
 abbrev Inv-loop : tie.InvT-loop
-Inv-loop img g n q₀ q = (q ≤ n) × (n ≡ g .pages) × (firstDirty g img (upFrom q (g .pages - q)) ≡ firstDirty g img (allPages g))
+Inv-loop img g n q₀ q = (q ≤ n) × (n ≡ g .pages) × (firstBy g (dirty g img) (upFrom q (g .pages - q)) ≡ firstDirty g img)
 
 abbrev μ-loop : tie.MeasureT-loop
 μ-loop img g n q₀ q = n - q
