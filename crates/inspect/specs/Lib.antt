@@ -4,3 +4,4 @@ pub mod Faults
 pub mod Tallies
 -- laws of both
 pub mod Firsts
+pub mod Checks
