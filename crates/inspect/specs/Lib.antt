@@ -2,6 +2,9 @@
 pub mod Faults
 -- the tally of a page
 pub mod Tallies
--- laws of both
+-- no fault means sound, by laws of first pages and of each test
 pub mod Firsts
 pub mod Checks
+pub mod Exact
+-- a tally counts each byte once
+pub mod Sums
