@@ -1,7 +1,7 @@
 -- Each test of the first fault, by what it says of the ring: from no fault to a sound image, and back.
 use mathlib.Core.Path.{_≡_, refl, sym, ap, _∙_}
 use mathlib.Core.Logic.{_≢_, _⊎_}
-use Prim.Native.Nat.{ℕ, suc, _+_, _-_, _≤_, _<_}
+use Prim.Native.Nat.{ℕ, suc, _-_, _<_}
 use native.Mathlib.Omega.{arith}
 use mathlib.Core.Bool.{Bool, true, false, not}
 use mathlib.Core.List.{List, [], _∷_, _++_}
@@ -10,9 +10,8 @@ use lib.ListN.{length, take, drop, replicate, length-drop}
 use lib.Seq.{length-take-le}
 use borrow.Author.Tests.{ltb-true, ltb-false, lt-ltb, le-ltb, eqb-true, eqb-false}
 use Rattle.rules.specs.declared.{Geo.Geo, PageState.PageState, PageState.the-variants.Open, PageState.the-variants.PartialOpen, PageState.the-variants.Closed, PageState.the-variants.Corrupted}
-use Rattle.rules.specs.Bytes.{pick, allFF}
-use Rattle.rules.specs.Held.{Held}
-use Rattle.rules.specs.Pages.{same, state, upFrom, allPages, isPage, firstWith, firstPage, area, areaLen, dataAt, endAt, scanOf, blankAt, next}
+use Rattle.rules.specs.Bytes.{pick}
+use Rattle.rules.specs.Pages.{same, state, upFrom, allPages, isPage, firstPage, area, areaLen, dataAt, endAt, scanOf, blankAt, next}
 use Rattle.rules.specs.Sound.{All, ringRest, Unused, BlankTail, Ring, Sound, blankRing, usedRing}
 use Rattle.laws.specs.Lists.{All-append, All-left, All-map, All-zip, All-upFrom, upFrom-All}
 use Rattle.laws.specs.Geometry.{Fit, page-in}
@@ -20,8 +19,8 @@ use Rattle.laws.specs.Rings.{ring-cons, ring-next, rest-all, all-rest, partial-
 use Rattle.laws.specs.Moves.{next-in, next-other, turned}
 use Rattle.laws.specs.Tails.{area-length, end-high}
 use Rattle.inspect.specs.declared.{Fault.Fault, Fault.the-variants.Nothing, Fault.the-variants.CorruptedPage, Fault.the-variants.NoPartialOpen, Fault.the-variants.SecondPartialOpen, Fault.the-variants.NextNotOpen, Fault.the-variants.OpenApart, Fault.the-variants.TailNotBlank}
-use Rattle.inspect.specs.Faults.{notFF, secondPartial, openApart, openAfter, dirty, firstDirty, firstBy, dirtyFault, dataFault, tailFault, blankFault, usedFault, pageFault}
-use Rattle.inspect.specs.Firsts.{two-states, is-open, is-partial, all-ff, ff-all, none-by, by-none, First, some-by, with-by, Parted, parted, parted-none, partial-head}
+use Rattle.inspect.specs.Faults.{notFF, secondPartial, openApart, openAfter, dirty, firstDirty, dirtyFault, dataFault, tailFault, blankFault, usedFault, pageFault}
+use Rattle.inspect.specs.Firsts.{two-states, is-open, is-partial, all-ff, ff-all, none-by, by-none, First, some-by, with-by, parted, parted-none, partial-head}
 
 -- a test that finds no fault
 passed : (b : Bool) (f r : Fault) → f ≢ Nothing → pick b f r ≡ Nothing → (b ≡ false) × (r ≡ Nothing)

@@ -1,11 +1,11 @@
 -- First pages of a list: what it means that there is none, and that there is one; blank bytes.
-use mathlib.Core.Path.{_≡_, refl, sym, ap, _∙_, subst}
+use mathlib.Core.Path.{_≡_, refl, sym, ap, _∙_}
 use mathlib.Core.Logic.{_⊎_, inl, inr, ⊎-elim, _≢_}
-use Prim.Native.Nat.{ℕ, zero, suc, _+_, _≤_, _<_}
+use Prim.Native.Nat.{ℕ, zero, suc, _≤_, _<_}
 use native.Mathlib.Omega.{arith}
 use mathlib.Core.Bool.{Bool, true, false}
 use mathlib.Core.List.{List, [], _∷_, _++_}
-use lib.Dec.{ltb, eqb}
+use lib.Dec.{eqb}
 use lib.ListN.{length, replicate}
 use borrow.Author.Tests.{ltb-true, ltb-false, eqb-true, eqb-false}
 use Rattle.rules.specs.declared.{Geo.Geo, PageState.PageState, PageState.the-variants.Open, PageState.the-variants.PartialOpen, PageState.the-variants.Closed, PageState.the-variants.Corrupted}
@@ -116,8 +116,8 @@ module _ (G : Geo) (img : List ℕ) where
   parted (q ∷ qs) h k e =
       ⊎-elim
       (λ o.
-        let r = parted qs (h .1) (k .1) (sym (ap (isPage G) (head-is q qs Open o)) ∙ e) in
-        record { os = q ∷ r .os; cs = r .cs; is = ap (λ (l : List ℕ). q ∷ l) (r .is); opens = (o, r .opens); closeds = r .closeds })
+      let r = parted qs (h .1) (k .1) (sym (ap (isPage G) (head-is q qs Open o)) ∙ e) in
+      record { os = q ∷ r .os; cs = r .cs; is = ap (λ (l : List ℕ). q ∷ l) (r .is); opens = (o, r .opens); closeds = r .closeds })
       (λ c. record { os = []; cs = q ∷ qs; is = refl; opens = tt; closeds = (c, all-closed qs (h .1) (k .1) (sym (ap (isPage G) (head-is q qs Closed c)) ∙ e)) })
       (k .0)
 

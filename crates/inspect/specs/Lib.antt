@@ -8,3 +8,5 @@ pub mod Checks
 pub mod Exact
 -- a tally counts each byte once
 pub mod Sums
+-- examples
+pub mod Examples

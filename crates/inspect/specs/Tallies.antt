@@ -1,9 +1,8 @@
 -- What the bytes of a page's data area hold.
 use Prim.Native.Nat.{ℕ, _+_, _-_}
-use mathlib.Core.Bool.{Bool, true, false}
 use mathlib.Core.List.{List, [], _∷_}
 use lib.ListN.{length}
-use Rattle.rules.specs.declared.{Geo.Geo, PageState.PageState, PageState.the-variants.Open, Kind.Kind, Kind.the-variants.Present, Kind.the-variants.Removed, Kind.the-variants.Damaged}
+use Rattle.rules.specs.declared.{PageState.PageState, PageState.the-variants.Open, Kind.Kind, Kind.the-variants.Present, Kind.the-variants.Removed, Kind.the-variants.Damaged}
 use Rattle.rules.specs.Bytes.{pick}
 use Rattle.rules.specs.Items.{Entry, Scan, size}
 use Rattle.rules.specs.Pages.{dataAt, endAt, state, scanOf, isPage}

@@ -304,7 +304,7 @@ fn tally_in(img: &[u8], a: usize, e: usize, w: usize, state: PageState) -> Tally
 }
 
 // The tally of page p.
-fn tally_of(img: &[u8], g: Geo, p: usize) -> Tally
+fn tally_at(img: &[u8], g: Geo, p: usize) -> Tally
     requires { ⌜ Held g (length (now img)) × (p < g .pages) ⌝ }
     ensures { λ r. ⌜ r ≡ tallyBy (g .word) (state g (now (img .entry)) p) (dataAt g p) (endAt g p) (scanOf g (now (img .entry)) p) ⌝ }
 {
@@ -332,5 +332,5 @@ pub fn tally_page(img: &[u8], page_size: usize, p: usize) -> Tally
     if g.pages <= p {
         return none;
     }
-    tally_of(img, g, p)
+    tally_at(img, g, p)
 }

@@ -1,3 +1,4 @@
+-- `inspect::add` meets its contract: the bytes go to the kind that the item is of.
 use native.Mathlib.Nat.{add-zero}
 use borrow.Author.Needs.{needs}
 use Rattle.inspect.proofs.add.Statement.{statement}

@@ -1,3 +1,4 @@
+-- `inspect::apart` meets its contract: the test is made where a Closed page was seen.
 use borrow.Author.Needs.{needs}
 use Rattle.inspect.proofs.apart.Statement.{statement}
 use Rattle.inspect.proofs.apart.Tie as tie

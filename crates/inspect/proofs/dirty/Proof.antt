@@ -1,3 +1,4 @@
+-- `inspect::dirty` meets its contract: the bytes between the two ends are the data area.
 use native.Mathlib.Omega.{arith}
 use Rattle.inspect.proofs.Laws.{dirty-is}
 use borrow.Author.Needs.{needs}

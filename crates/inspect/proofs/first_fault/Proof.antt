@@ -1,3 +1,4 @@
+-- `inspect::first_fault` meets its contract: the sizes are refused, or the pages are looked at.
 use Rattle.inspect.proofs.Laws.{held, page-some, fault-refused, fault-is}
 use borrow.Author.Needs.{needs}
 use Rattle.inspect.proofs.first_fault.Statement.{statement}

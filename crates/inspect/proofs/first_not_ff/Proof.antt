@@ -1,3 +1,4 @@
+-- `inspect::first_not_ff` meets its contract: in each turn the first byte from this place on is the first of all.
 use native.Mathlib.Omega.{arith}
 use mathlib.Core.Path.{_≡_, refl, sym, _∙_}
 use Prim.Native.Nat.{_-_, _≤_}

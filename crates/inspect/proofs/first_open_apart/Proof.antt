@@ -1,3 +1,4 @@
+-- `inspect::first_open_apart` meets its contract: in each turn the answer of the pages that are left is the answer of the ring.
 use native.Mathlib.Omega.{arith}
 use mathlib.Core.Path.{_≡_}
 use Prim.Native.Nat.{_<_}

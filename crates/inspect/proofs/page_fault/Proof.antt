@@ -1,3 +1,4 @@
+-- `inspect::page_fault` meets its contract: at each return the tests before it found nothing.
 use borrow.Author.Tests.{lt-ltb, le-ltb}
 use Rattle.inspect.specs.Faults.{pageFault}
 use borrow.Author.Needs.{needs}

@@ -1,5 +1,6 @@
+-- `inspect::second_partial` meets its contract: in each turn the first page from this one on is the first of all.
 use native.Mathlib.Omega.{arith}
-use mathlib.Core.Path.{_≡_, refl, sym, ap, _∙_}
+use mathlib.Core.Path.{_≡_, refl, sym, _∙_}
 use Prim.Native.Nat.{_-_, _≤_}
 use native.Mathlib.Numerals.{add-one}
 use Rattle.rules.specs.declared.{PageState.the-variants.PartialOpen}

@@ -1,3 +1,4 @@
+-- `inspect::seen` meets its contract: the test is made where no Closed page was seen yet.
 use borrow.Author.Needs.{needs}
 use Rattle.inspect.proofs.seen.Statement.{statement}
 use Rattle.inspect.proofs.seen.Tie as tie

@@ -1,3 +1,4 @@
+-- `inspect::tail_fault` meets its contract: the bytes from the scan's end to the end word.
 use borrow.Author.Needs.{needs}
 use Rattle.inspect.proofs.tail_fault.Statement.{statement}
 use Rattle.inspect.proofs.tail_fault.Tie as tie

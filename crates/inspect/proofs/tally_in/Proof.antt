@@ -1,3 +1,4 @@
+-- `inspect::tally_in` meets its contract: in each turn the tally counts what lies before this place.
 use native.Mathlib.Omega.{arith}
 use Prim.Native.Nat.{_-_}
 use Rattle.inspect.proofs.Counts.{Counted, counted-start, counted-none, counted-end, counted-skip, counted-item}

@@ -1,3 +1,4 @@
+-- `inspect::used_fault` meets its contract: at each return the tests before it found nothing.
 use borrow.Author.Tests.{lt-ltb, le-ltb}
 use Rattle.inspect.specs.Faults.{usedFault}
 use borrow.Author.Needs.{needs}
