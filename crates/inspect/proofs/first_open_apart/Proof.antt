@@ -20,13 +20,13 @@ loop-holds : tie.Need-loop-holds Inv-loop μ-loop
 loop-holds c = let a = c .before .args in (omega arith, rw (up-is (a .g) (a .p) (omega arith)))
 
 returns : tie.Need-returns Inv-loop μ-loop
-returns c = let a = c .before .before .before .before .before .before .args in let l = c .before .before .before .before .loop in apart-here (a .g) (a .img .now) (l .q) (l .m) (l .closed) _ (l .inv .1) (c .before .before .state .result) (c .before .apart .result) (c .before .before .before .loop-test .taken) (c .before .before .state .ensures) (c .before .apart .ensures) (c .if1 .taken)
+returns c = let a = c .before .before .before .before .before .before .args in let l = c .before .before .before .before .loop in apart-here (a .g) (a .img .now) (l .q) (l .m) (l .closed) _ (l .inv .1) (c .before .before .state .result) (c .before .apart .result) (omega arith) (c .before .before .state .ensures) (c .before .apart .ensures) (c .if1 .taken)
 
 loop-again : tie.Need-loop-again Inv-loop μ-loop
-loop-again c = let a = c .before .before .before .before .before .before .before .before .args in let l = c .before .before .before .before .before .before .loop in (omega arith, apart-on (a .g) (a .img .now) (l .q) (l .m) (l .closed) _ (l .inv .1) (c .before .before .before .before .state .result) (c .before .before .before .apart .result) (c .before .before .before .before .before .loop-test .taken) (c .before .before .before .before .state .ensures) (c .before .before .before .apart .ensures) (c .before .before .if1 .left) (c .before .seen .result) (c .next .result) (c .before .seen .ensures) (c .next .ensures .0))
+loop-again c = let a = c .before .before .before .before .before .before .before .before .args in let l = c .before .before .before .before .before .before .loop in (omega arith, apart-on (a .g) (a .img .now) (l .q) (l .m) (l .closed) _ (l .inv .1) (c .before .before .before .before .state .result) (c .before .before .before .apart .result) (omega arith) (c .before .before .before .before .state .ensures) (c .before .before .before .apart .ensures) (c .before .before .if1 .left) (c .before .seen .result) (c .next .result) (c .before .seen .ensures) (c .next .ensures .0))
 
 returns-2 : tie.Need-returns-2 Inv-loop μ-loop
-returns-2 c = let a = c .before .before .before .args in let l = c .before .loop in apart-none (a .g) (a .img .now) (l .q) (l .m) (l .closed) _ (l .inv .1) (c .loop-test .left)
+returns-2 c = let a = c .before .before .before .args in let l = c .before .loop in apart-none (a .g) (a .img .now) (l .q) (l .m) (l .closed) _ (l .inv .1) (omega arith)
 
 pub first-open-apart-spec : {M : Type 1} → statement M
 first-open-apart-spec =
