@@ -1,5 +1,5 @@
 -- Geometry: what a size that is not refused gives, and what every proof uses of a geometry and its image.
-use mathlib.Core.Path.{_≡_, refl, sym, ap, _∙_}
+use mathlib.Core.Path.{_≡_, refl, sym, ap, _∙_, subst}
 use mathlib.Core.Logic.{_≢_, _⊎_, inl, inr, ⊎-elim}
 use Prim.Native.Nat.{ℕ, _+_, _-_, _*_, _/_, _%_, _≤_, _<_}
 use mathlib.Core.Bool.{Bool, true, false, not}
@@ -178,3 +178,14 @@ held-of w E len m v h s =
       few = s .few;
       whole = omega arith;
     }
+
+-- the same by the refusal's number, as the code tests it
+module _ (w E m v : ℕ) (img : List ℕ) (word : (w ≡ 4) ⊎ (w ≡ 8)) (no : Answer) (d : ℕ) (hno : no ≡ refusal w E (length img) m v) (hd : d ≡ number no) where
+  pub fits : d ≡ 0 → Accepted w E (length img) m v
+  fits z = accepted w E (length img) m v (zero-done w E (length img) m v (sym (ap number hno) ∙ sym hd ∙ z))
+
+  pub page-some : d ≡ 0 → 0 < E
+  page-some z = omega (arith, fits z .room)
+
+  pub held : d ≡ 0 → (G : Geo) → G ≡ geoOf w E (length img) → Held G (length img)
+  held z G g = subst (λ H. Held H (length img)) (sym g) (held-of w E (length img) m v word (fits z))

@@ -1,7 +1,7 @@
 -- A public call is refused, or it runs.
-use mathlib.Core.Path.{_≡_, refl, ap, sym, subst, _∙_}
+use mathlib.Core.Path.{_≡_, refl, ap, sym, _∙_}
 use mathlib.Core.Logic.{_≢_, inl}
-use Prim.Native.Nat.{ℕ, _<_}
+use Prim.Native.Nat.{ℕ}
 use native.Mathlib.Omega.{arith}
 use mathlib.Core.Bool.{Bool, true, false}
 use mathlib.Core.List.{List, [], _++_}
@@ -9,7 +9,6 @@ use lib.ListN.{length, take, drop}
 use borrow.Author.Tests.{ne-eqb, eq-eqb, eqb-true, eqb-false, ltb-true}
 use Rattle.rules.specs.declared.{Geo.Geo, Cursor.Cursor, Answer.Answer, Answer.the-variants.Done, Answer.the-variants.Corrupted}
 use Rattle.rules.specs.Bytes.{pick}
-use Rattle.rules.specs.Held.{Held}
 use Rattle.rules.specs.Cache.{Cache as Entries}
 use Rattle.rules.specs.Answers.{number, isNo, refusal}
 use Rattle.rules.specs.Pages.{dataAt, isPage, anyCorrupted}
@@ -17,7 +16,7 @@ use Rattle.rules.specs.Runs.{St, Out, out, after, on, onDone, End, end, final, 
 use Rattle.rules.specs.Store.{repair, looked, autoRepair}
 use Rattle.rules.specs.Walk.{Step, ended, stepped, walkFirst, runStart, walkStart}
 use Rattle.rules.specs.Calls.{Told as Handed, stepAnswer, stepCursor, geoOf, tell, behind}
-use Rattle.laws.specs.Geometry.{Accepted, accepted, held-of, zero-done}
+use Rattle.laws.specs.Geometry.{fits}
 use Rattle.cache.specs.declared.{Cache.Cache}
 use Rattle.cache.specs.Code.{pointers}
 use Rattle.cache.proofs.Whole.{take-pointers, past-pointers}
@@ -29,15 +28,6 @@ use Rattle.walk.specs.Code.{toldStep}
 use Rattle.map.specs.Code.{lentOf, answered, HasFirst, firstCursor, steppedBy}
 
 module _ (E m v : ℕ) (img : List ℕ) (no : Answer) (d : ℕ) (hno : no ≡ refusal 4 E (length img) m v) (hd : d ≡ number no) where
-  pub fits : d ≡ 0 → Accepted 4 E (length img) m v
-  fits z = accepted 4 E (length img) m v (zero-done 4 E (length img) m v (sym (ap number hno) ∙ sym hd ∙ z))
-
-  pub page-some : d ≡ 0 → 0 < E
-  page-some z = omega (arith, fits z .room)
-
-  pub held : d ≡ 0 → (G : Geo) → G ≡ geoOf 4 E (length img) → Held G (length img)
-  held z G g = subst (λ H. Held H (length img)) (sym g) (held-of 4 E (length img) m v (inl refl) (fits z))
-
   module _ (f : Geo → St → Out) (cur : Geo → Out → Cursor) (c₀ : Cursor) where
     -- a refusal leaves everything
     pub refused : d ≢ 0 → (c : Entries) → answered no c₀ (record { image = img; cache = c }) ≡ behind 4 E m v (record { image = img; cache = c }) f cur c₀
@@ -55,7 +45,7 @@ module _ (E m v : ℕ) (img : List ℕ) (no : Answer) (d : ℕ) (hno : no ≡ re
         → record { answer = r .answer; cursor = k; image = img′; cache = pointers 32 (r .mem .cache); erased = r .mem .erased }
         ≡ behind 4 E m v (lentOf img c) f cur c₀
     ran z c b G g img′ r R k hk =
-        let le = fits z .cached in
+        let le = fits 4 E m v img (inl refl) no d hno hd z .cached in
         let o = f G (stOf m img (record { cache = c; erased = 0 })) in
         let whole : tell m (lentOf img c) (λ x. k) o ≡ record { answer = r .answer; cursor = k; image = img′; cache = pointers 32 (r .mem .cache); erased = r .mem .erased } =
         ap {B = Handed} (λ (x : End). record { answer = x .ans; cursor = k; image = x .st .img; cache = x .st .cache ++ drop m (pointers 32 c); erased = x .st .erased }) (sym (R .is))

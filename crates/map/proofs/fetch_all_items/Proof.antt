@@ -1,5 +1,5 @@
 -- `map::fetch_all_items` meets its contract: it is refused, or the walk starts.
-use mathlib.Core.Path.{_≡_, ap, sym, subst, _∙_}
+use mathlib.Core.Path.{_≡_, ap, sym, subst, _∙_, refl}
 use lib.ListN.{length}
 use Rattle.rules.specs.Held.{Held}
 use native.Mathlib.Omega.{arith}
@@ -8,7 +8,9 @@ use Rattle.rules.specs.Walk.{walkStart}
 use Rattle.rules.specs.Calls.{noCursor, startCursor, called}
 use Rattle.cache.specs.Code.{pointers}
 use Rattle.map.specs.Code.{firstCursor}
-use Rattle.map.proofs.Laws.{fits, page-some, held, refused, ran, has-first}
+use mathlib.Core.Logic.{inl}
+use Rattle.laws.specs.Geometry.{fits, page-some, held}
+use Rattle.map.proofs.Laws.{refused, ran, has-first}
 use borrow.Author.Needs.{needs}
 use Rattle.map.proofs.fetch_all_items.Statement.{statement}
 use Rattle.map.proofs.fetch_all_items.Tie as tie
@@ -26,7 +28,7 @@ geometry-requires c κs =
     let a = c .before .before .before .before .args in
     let no = c .before .before .refusal in
     let d = c .before .number in
-    page-some (a .page) (a .size) 0 (a .img .now) (no .result) (d .result) (no .ensures) (d .ensures) (c .if1 .left)
+    page-some 4 (a .page) (a .size) 0 (a .img .now) (inl refl) (no .result) (d .result) (no .ensures) (d .ensures) (c .if1 .left)
 
 walk-start-requires : tie.Need-walk-start-requires
 walk-start-requires c κs =
@@ -35,7 +37,7 @@ walk-start-requires c κs =
     let d = c .before .before .before .number in
     let g = c .before .geometry in
     let z = c .before .before .if1 .left in
-    (held (a .page) (a .size) 0 (a .img .now) (no .result) (d .result) (no .ensures) (d .ensures) z (g .result) (g .ensures), fits (a .page) (a .size) 0 (a .img .now) (no .result) (d .result) (no .ensures) (d .ensures) z .cached, omega arith)
+    (held 4 (a .page) (a .size) 0 (a .img .now) (inl refl) (no .result) (d .result) (no .ensures) (d .ensures) z (g .result) (g .ensures), fits 4 (a .page) (a .size) 0 (a .img .now) (inl refl) (no .result) (d .result) (no .ensures) (d .ensures) z .cached, omega arith)
 
 first-cursor-requires : tie.Need-first-cursor-requires
 first-cursor-requires c κs =
@@ -45,7 +47,7 @@ first-cursor-requires c κs =
     let g = c .before .before .before .before .before .before .before .geometry in
     let r = c .before .before .before .before .before .walk-start in
     let z = c .before .before .before .before .before .before .before .before .if1 .left in
-    let h = held (a .page) (a .size) 0 (a .img .now) (no .result) (d .result) (no .ensures) (d .ensures) z (g .result) (g .ensures) in
+    let h = held 4 (a .page) (a .size) 0 (a .img .now) (inl refl) (no .result) (d .result) (no .ensures) (d .ensures) z (g .result) (g .ensures) in
     let e : length (r .last .0) ≡ length (a .img .now) = search needs in
     (subst (λ n. Held (g .result) n) (sym e) h, has-first (g .result) (a .size) _ (a .img .now) (r .last .0) _ (r .result) (r .ensures))
 

@@ -4,7 +4,9 @@ use mathlib.Core.Path.{refl}
 use native.Mathlib.Omega.{arith}
 use Rattle.rules.specs.Calls.{noCursor, called}
 use Rattle.cache.specs.Code.{pointers}
-use Rattle.map.proofs.Laws.{fits, page-some, held, refused, ran}
+use mathlib.Core.Logic.{inl}
+use Rattle.laws.specs.Geometry.{fits, page-some, held}
+use Rattle.map.proofs.Laws.{refused, ran}
 use borrow.Author.Needs.{needs}
 use Rattle.map.proofs.fetch_item.Statement.{statement}
 use Rattle.map.proofs.fetch_item.Tie as tie
@@ -22,7 +24,7 @@ geometry-requires c κs =
     let a = c .before .before .before .before .args in
     let no = c .before .before .refusal in
     let d = c .before .number in
-    page-some (a .page) (a .size) 0 (a .img .now) (no .result) (d .result) (no .ensures) (d .ensures) (c .if1 .left)
+    page-some 4 (a .page) (a .size) 0 (a .img .now) (inl refl) (no .result) (d .result) (no .ensures) (d .ensures) (c .if1 .left)
 
 fetch-requires : tie.Need-fetch-requires
 fetch-requires c κs =
@@ -30,8 +32,8 @@ fetch-requires c κs =
     let no = c .before .before .before .before .refusal in
     let d = c .before .before .before .number in
     let z = c .before .before .if1 .left in
-    let F = fits (a .page) (a .size) 0 (a .img .now) (no .result) (d .result) (no .ensures) (d .ensures) z in
-    (held (a .page) (a .size) 0 (a .img .now) (no .result) (d .result) (no .ensures) (d .ensures) z (c .before .geometry .result) (c .before .geometry .ensures), F .cached, omega arith)
+    let F = fits 4 (a .page) (a .size) 0 (a .img .now) (inl refl) (no .result) (d .result) (no .ensures) (d .ensures) z in
+    (held 4 (a .page) (a .size) 0 (a .img .now) (inl refl) (no .result) (d .result) (no .ensures) (d .ensures) z (c .before .geometry .result) (c .before .geometry .ensures), F .cached, omega arith)
 
 returns-2 : tie.Need-returns-2
 unfolding called

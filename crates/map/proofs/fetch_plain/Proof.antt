@@ -4,7 +4,9 @@ use mathlib.Core.List.{[]}
 use Rattle.rules.specs.Runs.{out, end}
 use Rattle.rules.specs.Fetch.{plainFetch}
 use Rattle.rules.specs.Calls.{noCursor, called}
-use Rattle.map.proofs.Laws.{page-some, held, refused, read-only}
+use mathlib.Core.Logic.{inl}
+use Rattle.laws.specs.Geometry.{page-some, held}
+use Rattle.map.proofs.Laws.{refused, read-only}
 use borrow.Author.Needs.{needs}
 use Rattle.map.proofs.fetch_plain.Statement.{statement}
 use Rattle.map.proofs.fetch_plain.Tie as tie
@@ -22,7 +24,7 @@ geometry-requires c κs =
     let a = c .before .before .before .before .args in
     let no = c .before .before .refusal in
     let d = c .before .number in
-    page-some (a .page) 0 0 (a .img .now) (no .result) (d .result) (no .ensures) (d .ensures) (c .if1 .left)
+    page-some 4 (a .page) 0 0 (a .img .now) (inl refl) (no .result) (d .result) (no .ensures) (d .ensures) (c .if1 .left)
 
 plain-fetch-requires : tie.Need-plain-fetch-requires
 plain-fetch-requires c κs =
@@ -30,7 +32,7 @@ plain-fetch-requires c κs =
     let no = c .before .before .before .refusal in
     let d = c .before .before .number in
     let g = c .geometry in
-    held (a .page) 0 0 (a .img .now) (no .result) (d .result) (no .ensures) (d .ensures) (c .before .if1 .left) (g .result) (g .ensures)
+    held 4 (a .page) 0 0 (a .img .now) (inl refl) (no .result) (d .result) (no .ensures) (d .ensures) (c .before .if1 .left) (g .result) (g .ensures)
 
 returns-2 : tie.Need-returns-2
 unfolding called

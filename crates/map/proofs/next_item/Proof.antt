@@ -1,11 +1,13 @@
 -- `map::next_item` meets its contract: it is refused, or it steps.
-use mathlib.Core.Path.{ap, sym, _∙_}
+use mathlib.Core.Path.{ap, sym, _∙_, refl}
 use mathlib.Core.List.{[]}
 use Rattle.rules.specs.Runs.{out, end}
 use Rattle.rules.specs.Walk.{walkStep}
 use Rattle.rules.specs.Calls.{stepAnswer, stepCursor, called}
 use Rattle.map.specs.Code.{steppedBy}
-use Rattle.map.proofs.Laws.{page-some, held, refused, read-only, step-answer, step-cursor}
+use mathlib.Core.Logic.{inl}
+use Rattle.laws.specs.Geometry.{page-some, held}
+use Rattle.map.proofs.Laws.{refused, read-only, step-answer, step-cursor}
 use borrow.Author.Needs.{needs}
 use Rattle.map.proofs.next_item.Statement.{statement}
 use Rattle.map.proofs.next_item.Tie as tie
@@ -23,7 +25,7 @@ geometry-requires c κs =
     let a = c .before .before .before .before .args in
     let no = c .before .before .refusal in
     let d = c .before .number in
-    page-some (a .page) 0 0 (a .img .now) (no .result) (d .result) (no .ensures) (d .ensures) (c .if1 .left)
+    page-some 4 (a .page) 0 0 (a .img .now) (inl refl) (no .result) (d .result) (no .ensures) (d .ensures) (c .if1 .left)
 
 walk-step-requires : tie.Need-walk-step-requires
 walk-step-requires c κs =
@@ -31,7 +33,7 @@ walk-step-requires c κs =
     let no = c .before .before .before .refusal in
     let d = c .before .before .number in
     let g = c .geometry in
-    held (a .page) 0 0 (a .img .now) (no .result) (d .result) (no .ensures) (d .ensures) (c .before .if1 .left) (g .result) (g .ensures)
+    held 4 (a .page) 0 0 (a .img .now) (inl refl) (no .result) (d .result) (no .ensures) (d .ensures) (c .before .if1 .left) (g .result) (g .ensures)
 
 returns-2 : tie.Need-returns-2
 unfolding called

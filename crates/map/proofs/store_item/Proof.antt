@@ -5,7 +5,9 @@ use mathlib.Core.Path.{refl}
 use native.Mathlib.Omega.{arith}
 use Rattle.rules.specs.Calls.{noCursor, called}
 use Rattle.cache.specs.Code.{pointers}
-use Rattle.map.proofs.Laws.{fits, page-some, held, refused, ran}
+use mathlib.Core.Logic.{inl}
+use Rattle.laws.specs.Geometry.{fits, page-some, held}
+use Rattle.map.proofs.Laws.{refused, ran}
 use borrow.Author.Needs.{needs}
 use Rattle.map.proofs.store_item.Statement.{statement}
 use Rattle.map.proofs.store_item.Tie as tie
@@ -23,7 +25,7 @@ geometry-requires c κs =
     let a = c .before .before .before .before .before .args in
     let no = c .before .before .refusal in
     let d = c .before .number in
-    page-some (a .page) (a .size) (length (a .value .now)) (a .img .now) (no .result) (d .result) (no .ensures) (d .ensures) (c .if1 .left)
+    page-some 4 (a .page) (a .size) (length (a .value .now)) (a .img .now) (inl refl) (no .result) (d .result) (no .ensures) (d .ensures) (c .if1 .left)
 
 store-requires : tie.Need-store-requires
 store-requires c κs =
@@ -31,8 +33,8 @@ store-requires c κs =
     let no = c .before .before .before .before .refusal in
     let d = c .before .before .before .number in
     let z = c .before .before .if1 .left in
-    let F = fits (a .page) (a .size) (length (a .value .now)) (a .img .now) (no .result) (d .result) (no .ensures) (d .ensures) z in
-    (held (a .page) (a .size) (length (a .value .now)) (a .img .now) (no .result) (d .result) (no .ensures) (d .ensures) z (c .before .geometry .result) (c .before .geometry .ensures), F .cached, omega (arith, F .fits, F .most), omega arith)
+    let F = fits 4 (a .page) (a .size) (length (a .value .now)) (a .img .now) (inl refl) (no .result) (d .result) (no .ensures) (d .ensures) z in
+    (held 4 (a .page) (a .size) (length (a .value .now)) (a .img .now) (inl refl) (no .result) (d .result) (no .ensures) (d .ensures) z (c .before .geometry .result) (c .before .geometry .ensures), F .cached, omega (arith, F .fits, F .most), omega arith)
 
 returns-2 : tie.Need-returns-2
 unfolding called
