@@ -1,9 +1,9 @@
-use Rattle.words.proofs.Laws.{zeros-step}
+use Rattle.words.proofs.Laws.{zeros-cat}
 use Rattle.rules.specs.Bytes.{zeros}
 use mathlib.Core.Path.{_≡_}
 use Prim.Native.Nat.{_+_, _-_, _*_, _≤_}
 use native.Mathlib.Omega.{arith}
-use lib.ListN.{length, drop, drop-of-length-le}
+use lib.ListN.{length, drop}
 use borrow.Author.Needs.{needs}
 use Rattle.words.proofs.zeros.Statement.{statement}
 use Rattle.words.proofs.zeros.Tie as tie
@@ -18,15 +18,15 @@ loop-holds : tie.Need-loop-holds Inv-loop μ-loop
 loop-holds c = (omega arith, omega arith, omega arith)
 
 loop-again : tie.Need-loop-again Inv-loop μ-loop
-loop-again c = omega (arith, zeros-step (c .before .before .before .before .before .args .s .now) (c .before .before .before .loop .i) (c .before .before .loop-test .taken))
+loop-again c =
+    let l = c .before .before in
+    omega (arith, zeros-cat 8 (l .loop .i) (l .before .before .args .s .now))
 
 returns : tie.Need-returns Inv-loop μ-loop
-returns c =
-    let h = rw (drop-of-length-le (c .before .before .before .args .s .now) {i = c .before .loop .i} (omega arith)) at (c .before .loop .inv .2) in
-    (omega (arith, h), omega arith)
+returns c = omega arith
 
 pub zeros-spec : {M : Type 1} → statement M
 zeros-spec =
     tie.close (tie.spec
     Inv-loop μ-loop loop-holds (λ c. search needs) (λ c κs. search needs) (λ c. search needs) (λ c. search needs) (λ c. search needs) loop-again
-    returns)
+    (λ c κs. search needs) (λ c. search needs) returns)
