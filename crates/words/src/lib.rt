@@ -126,11 +126,14 @@ fn zeros_rest(s: &[u8], i: usize) -> u32
     zeros_last(s, i)
 }
 
-// The zero bits of the bytes, eight counted together.
+// The zero bits of the bytes, eight counted together. Most calls count a word of four.
 pub fn zeros(s: &[u8]) -> u32
     requires { ⌜ length (now s) ≤ 65536 ⌝ }
     ensures { λ r. ⌜ (r ≡ zeros (now (s .entry))) × (r ≤ 8 * length (now (s .entry))) ⌝ }
 {
+    if s.len() == 4 {
+        return zeros4(s, 0);
+    }
     let mut k: u32 = 0;
     let mut i: usize = 0;
     while 8 <= s.len() - i {
