@@ -4,3 +4,5 @@ pub mod Words
 pub mod Ends
 -- what the words say: an end leaves the cursor, a refusal writes zeros
 pub mod Says
+-- a fetch that changes nothing
+pub mod Still
