@@ -168,11 +168,10 @@ fn store_alone<const E: usize>(s: Shape) {
     let mut a: Vec<Ours<E>> = (0..maps).map(|_| Side::blank(s.pages, SLOTS)).collect();
     let mut b: Vec<Text<E>> = (0..maps).map(|_| Side::blank(s.pages, SLOTS)).collect();
     let whole = vec![0x5A; s.room() * s.value];
-    let [ours, text, plain] = medians([
-        &mut || fill_first(&mut a, s, &values),
-        &mut || fill_first(&mut b, s, &values),
-        &mut || repeated(&mut || _ = black_box(plain::zero_bits(black_box(&whole)))),
-    ]);
+    let [ours, text, plain] =
+        medians([&mut || fill_first(&mut a, s, &values), &mut || fill_first(&mut b, s, &values), &mut || {
+            repeated(&mut || _ = black_box(plain::zero_bits(black_box(&whole))))
+        }]);
     a.iter_mut().zip(&mut b).for_each(|(a, b)| same(a, b));
     assert_eq!(a[0].erased(), 0);
     line("store, no rollover", s, ours, text, plain);
@@ -206,7 +205,8 @@ fn run<const E: usize>(s: Shape) -> Run {
     let image = a.image().to_vec();
     a.load(&image);
     let (mut stores, mut timed) = (Vec::new(), Vec::new());
-    while timed.iter().filter(|&&t| t).count() < 4 {
+    let enough = (131_072 / image.len()).max(4);
+    while timed.iter().filter(|&&t| t).count() < enough {
         let before = a.erased();
         let (key, value) = next();
         assert!(a.store(key, &value));
