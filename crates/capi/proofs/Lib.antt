@@ -4,3 +4,5 @@ pub mod Words
 pub mod Ends
 -- what is told fits the words
 pub mod Small
+-- a fetch that changes nothing
+pub mod Still

@@ -1,4 +1,6 @@
 -- What the C border takes and leaves, in words of 32 bits.
+use mathlib.Core.Path.{_≡_}
+use mathlib.Core.Logic.{_≢_}
 use Prim.Native.Nat.{ℕ, _<_}
 use mathlib.Core.List.{List, [], _∷_, _++_}
 use lib.Dec.{eqb}
@@ -7,7 +9,8 @@ use Rattle.rules.specs.declared.{Cursor.Cursor, Answer.Answer}
 use Rattle.rules.specs.Bytes.{pick}
 use Rattle.rules.specs.Cache.{Pointer, Cache as Entries}
 use Rattle.rules.specs.Answers.{paper, number, isNo}
-use Rattle.rules.specs.Calls.{Told as Handed, Call, called, fetchPlain, fetchAllItems, nextItem}
+use Rattle.rules.specs.Calls.{Told as Handed, Call, noCursor, called, fetchItem, fetchPlain, fetchAllItems, nextItem}
+use Rattle.cache.specs.declared.{Cache.Cache}
 use Rattle.cache.specs.Code.{entries}
 use Rattle.capi.specs.declared.Shown.{Shown}
 
@@ -20,6 +23,10 @@ Word n = n < 4294967296
 -- the entries of 64 words
 abbrev pub entriesOf : List ℕ → Entries
 entriesOf ws = entries (take 32 ws) (drop 32 ws)
+
+-- the two arrays of 64 words
+abbrev pub lentCache : List ℕ → Cache
+lentCache ws = record { keys = take 32 ws; places = take 32 (drop 32 ws) }
 
 -- the keys of entries, and the places
 abbrev pub keysOf : List Pointer → List ℕ
@@ -140,3 +147,10 @@ stepBorder E i w o =
     let wrong : StepLeft = record { no = 255; cursor = w; out = o } in
     let told = called 4 E 0 (nextItem (cursorOf w)) (record { image = i; cache = [] }) in
     pick (eqb (length w) 3) (pick (eqb (length o) 5) (stepHanded w told) wrong) wrong
+
+-- ---- the inner functions
+
+-- an answer other than Corrupted is that of a fetch of key k, which changes nothing
+pub record StillOk (E m k : ℕ) (img ws : List ℕ) (a : Answer) : Type 0 where
+  pub is : number a ≢ 8
+      → record { answer = a; cursor = noCursor; image = img; cache = entriesOf ws; erased = 0 } ≡ called 4 E m (fetchItem k) (record { image = img; cache = entriesOf ws })

@@ -1,15 +1,18 @@
 // The C border over the public calls: numbers and slices only, and the answer's number back.
 ghost use mathlib.Core.Path.{_≡_};
 ghost use mathlib.Core.List.{[], _∷_};
+ghost use Prim.Native.Nat.{_≤_};
 ghost use lib.ListN.{length};
 ghost use Rattle.rules.specs.Answers.{number};
+ghost use Rattle.rules.specs.Cache.{lookup};
 ghost use Rattle.rules.specs.Calls.{fetchItem, storeItem, removeItem, removeAllItems, eraseAllPages};
 ghost use Rattle.cache.specs.Code.{pointers};
-ghost use Rattle.capi.specs.Code.{Word, Fits, CursorFits, entriesOf, cacheWords, cursorOf, cursorWords, cursorAfter, shownOf, outWords, border, plainBorder, startBorder, stepBorder};
+ghost use Rattle.capi.specs.Code.{Word, Fits, CursorFits, entriesOf, lentCache, StillOk, cacheWords, cursorOf, cursorWords, cursorAfter, shownOf, outWords, border, plainBorder, startBorder, stepBorder};
 use cache::Cache;
 use map::Told;
 use rules::Answer;
 use rules::Cursor;
+use search::Cached;
 
 // What an answer shows: its kind (0 nothing, 1 a value or an item), place, length and key.
 pub struct Shown {
@@ -208,6 +211,71 @@ pub extern "C" fn map_fetch_plain(img: &[u8], page: usize, key: u32, out: &mut [
     answer::number(a)
 }
 
+// The place that the cache's words have for the key, 0 where they have none.
+fn find_words(words: &[u32], size: usize, key: u32) -> u32
+    requires { ⌜ (length (now words) ≡ 64) × (size ≤ 32) ⌝ }
+    ensures { λ r. ⌜ r ≡ lookup key (pointers size (lentCache (now (words .entry)))) ⌝ }
+{
+    let mut i: usize = 0;
+    while i < size {
+        if words[i] == key {
+            if words[32 + i] != 0 {
+                return words[32 + i];
+            }
+        }
+        i += 1;
+    }
+    0
+}
+
+// What a fetch answers from the place that the lent cache has for its key; Corrupted where it must search.
+fn fetch_hit(img: &[u8], page: usize, words: &[u32], size: usize, key: u32) -> Answer
+    requires { ⌜ length (now words) ≡ 64 ⌝ }
+    ensures { λ r. ⌜ StillOk page size key (now (img .entry)) (now (words .entry)) r ⌝ }
+{
+    let no = answer::refusal(4, page, img.len(), size, 0);
+    if answer::number(no) != 0 {
+        return no;
+    }
+    let a = find_words(words, size, key);
+    if a == 0 {
+        return Answer::Corrupted;
+    }
+    let g = answer::geometry(4, page, img.len());
+    let Cached::At(p, l) = search::hit(img, g, key, a as usize) else {
+        return Answer::Corrupted;
+    };
+    Answer::Value(p + 12, l - 4)
+}
+
+// What a fetch answers where it changes nothing; Corrupted where it may. No copy of the cache is made.
+fn fetch_still(img: &[u8], page: usize, words: &[u32], size: usize, key: u32) -> Answer
+    requires { ⌜ length (now words) ≡ 64 ⌝ }
+    ensures { λ r. ⌜ StillOk page size key (now (img .entry)) (now (words .entry)) r ⌝ }
+{
+    if size == 0 {
+        return map::fetch_plain(img, page, key);
+    }
+    fetch_hit(img, page, words, size, key)
+}
+
+// A fetch with a copy of the cache.
+fn fetch_copied(
+    img: &mut [u8],
+    page: usize,
+    cache: &mut [u32],
+    size: usize,
+    key: u32,
+    out: &mut [u32],
+) -> u32
+    requires { ⌜ (length (now cache) ≡ 64) × (length (now out) ≡ 5) ⌝ }
+    ensures { λ r. ⌜ record { no = r; image = now (img .exit); cache = now (cache .exit); out = now (out .exit) } ≡ border page size (fetchItem key) (now (img .entry)) (now (cache .entry)) (now (out .entry)) ⌝ }
+{
+    let held = cache_of(cache);
+    let told = map::fetch_item(img, page, held, size, key);
+    finish(cache, out, told)
+}
+
 // The newest value of a key; a damaged image is repaired once.
 #[no_mangle]
 pub extern "C" fn map_fetch_item(
@@ -226,9 +294,12 @@ pub extern "C" fn map_fetch_item(
     if out.len() != 5 {
         return 255;
     }
-    let held = cache_of(cache);
-    let told = map::fetch_item(img, page, held, size, key);
-    finish(cache, out, told)
+    let a = fetch_still(img, page, cache, size, key);
+    if answer::number(a) == 8 {
+        return fetch_copied(img, page, cache, size, key, out);
+    }
+    put_out(out, 0, a);
+    answer::number(a)
 }
 
 // A key gets a value.

@@ -1,16 +1,19 @@
 -- Bytes, words and programming, in the form that the loops ask.
-use mathlib.Core.Path.{_≡_, refl}
+use mathlib.Core.Path.{_≡_, refl, sym, ap, _∙_}
+use mathlib.Core.Logic.{_⊎_, inl, inr, ⊎-elim}
 use Prim.Native.Nat.{ℕ, zero, suc, _+_, _-_, _*_, _/_, _^_, _≤_, _<_}
 use native.Mathlib.Omega.{arith}
 use native.Mathlib.Numerals.{add-one}
-use mathlib.Core.Bool.{false}
-use mathlib.Core.List.{List}
-use lib.ListN.{length, getD, set, take, drop, replicate, length-drop, length-replicate, drop-of-length-le}
-use lib.Seq.{drop-cons}
+use native.Mathlib.Nat.{eq-or-lt-of-le, pow-suc}
+use mathlib.Core.Bool.{true, false}
+use mathlib.Core.List.{List, [], _∷_, _++_}
+use lib.ListN.{length, getD, set, take, drop, replicate, length-drop, length-replicate, take-append-drop, drop-of-length-le}
+use lib.Seq.{drop-cons, drop-drop, length-take-le}
 use lib.Bits.{bitAnd}
-use lib.Count.{ones, ones-step}
+use lib.Count.{ones, ones-step, ones-cat}
 use borrow.Author.Tests.{ne-eqb, eq-eqb}
-use Rattle.rules.specs.Bytes.{zerosIn, zeroBits, zeros, allFF, ofLe, splice, program}
+use Rattle.rules.specs.Bytes.{Bytes, both, zerosIn, zeroBits, zeros, allFF, ofLe, splice, program}
+use Rattle.laws.specs.ByteLaws.{Bytes-take, Bytes-drop, allFF-append}
 use Rattle.laws.specs.Programs.{program-nil, program-cons, splice-nil, splice-cons}
 
 pub zeros-ones : (k n : ℕ) → n < 2 ^ k → zerosIn k n + ones n ≡ k
@@ -47,6 +50,69 @@ le4 s a h =
     let q₂ : a + 2 ≡ suc (suc a) = omega arith in
     let q₃ : a + 3 ≡ suc (suc (suc a)) = omega arith in
     rw (drop-cons s a 0 h₀, drop-cons s (suc a) 0 h₁, drop-cons s (suc (suc a)) 0 h₂, drop-cons s (suc (suc (suc a))) 0 h₃, add-one, q₂, q₃) (omega arith)
+
+-- ---- several bytes as one number
+
+pub bytes-all : (l : List ℕ) → ((i : ℕ) → getD l i 0 < 256) → Bytes l
+bytes-all [] h = tt
+bytes-all (b ∷ bs) h = (h 0, bytes-all bs (λ i. h (suc i)))
+
+le-cat : (l : List ℕ) → 4 ≤ length l → ofLe (take 8 l) ≡ ofLe (take 4 l) + 4294967296 * ofLe (take 4 (drop 4 l))
+le-cat [] h = absurd (omega arith)
+le-cat (a ∷ []) h = absurd (omega arith)
+le-cat (a ∷ b ∷ []) h = absurd (omega arith)
+le-cat (a ∷ b ∷ c ∷ []) h = absurd (omega arith)
+le-cat (a ∷ b ∷ c ∷ d ∷ l) h = omega arith
+
+pub le8 : (s : List ℕ) (a : ℕ) → a + 8 ≤ length s → ofLe (take 8 (drop a s)) ≡ ofLe (take 4 (drop a s)) + 4294967296 * ofLe (take 4 (drop (a + 4) s))
+le8 s a h = rw (← drop-drop 4 a s) (le-cat (drop a s) (omega (arith, length-drop a s)))
+
+-- the zero bits and the ones of bytes make all their bits
+ones-all : (l : List ℕ) → Bytes l → zeros l + ones (ofLe l) ≡ 8 * length l
+unfolding ones
+ones-all [] h = refl
+ones-all (b ∷ bs) h =
+    let q : b + 256 * ofLe bs ≡ ofLe bs * 256 + b = omega arith in
+    rw q (omega (arith, ones-cat 8 (ofLe bs) b (h .0), zeroBits-is b (h .0), ones-all bs (h .1)))
+
+part : (m a : ℕ) (s : List ℕ) → a + m ≤ length s → length (take m (drop a s)) ≡ m
+part m a s h = length-take-le m (drop a s) (omega (arith, length-drop a s))
+
+pub zeros-part : (m a : ℕ) (s : List ℕ) → ((i : ℕ) → getD s i 0 < 256) → a + m ≤ length s → zeros (take m (drop a s)) + ones (ofLe (take m (drop a s))) ≡ 8 * m
+zeros-part m a s h k = ones-all (take m (drop a s)) (Bytes-take m (drop a s) (Bytes-drop a s (bytes-all s h))) ∙ ap (λ (n : ℕ). 8 * n) (part m a s k)
+
+pub zeros-cat : (m a : ℕ) (s : List ℕ) → zeros (drop a s) ≡ zeros (take m (drop a s)) + zeros (drop (a + m) s)
+zeros-cat m a s = rw (← drop-drop m a s) (go m (drop a s))
+  where
+    go : (m : ℕ) (l : List ℕ) → zeros l ≡ zeros (take m l) + zeros (drop m l)
+    go zero l = omega arith
+    go (suc m) [] = refl
+    go (suc m) (b ∷ bs) = omega (arith, go m bs)
+
+-- bytes are all 0xFF just where their number is the largest
+ff-number : (l : List ℕ) → Bytes l → ((allFF l ≡ true) × (ofLe l + 1 ≡ 256 ^ length l)) ⊎ ((allFF l ≡ false) × (ofLe l + 1 < 256 ^ length l))
+ff-number [] h = inl (refl, refl)
+ff-number (b ∷ bs) h =
+    let p : 256 ^ suc (length bs) ≡ 256 ^ length bs * 256 = pow-suc 256 (length bs) in
+    let k : b ≤ 255 = omega (arith, h .0) in
+    ⊎-elim
+    (λ (e : b ≡ 255). ⊎-elim (λ y. inl (rw e (y .0), omega (arith, p, e, y .1))) (λ n. inr (rw e (n .0), omega (arith, p, e, n .1))) (ff-number bs (h .1)))
+    (λ (e : b < 255). inr (rw (ne-eqb b 255 (λ q. absurd (omega (arith, q, e)))), ⊎-elim (λ y. omega (arith, p, e, y .1)) (λ n. omega (arith, p, e, n .1)) (ff-number bs (h .1))))
+    (eq-or-lt-of-le k)
+
+-- eight bytes, and the rest
+ff-part : (s : List ℕ) (a : ℕ) → allFF (drop a s) ≡ both (allFF (take 8 (drop a s))) (allFF (drop (a + 8) s))
+ff-part s a = rw (← drop-drop 8 a s) (sym (ap allFF (take-append-drop 8 (drop a s))) ∙ allFF-append (take 8 (drop a s)) (drop 8 (drop a s)))
+
+module _ (s : List ℕ) (a : ℕ) (h : (i : ℕ) → getD s i 0 < 256) (k : a + 8 ≤ length s) where
+  eight : ((allFF (take 8 (drop a s)) ≡ true) × (ofLe (take 8 (drop a s)) + 1 ≡ 18446744073709551616)) ⊎ ((allFF (take 8 (drop a s)) ≡ false) × (ofLe (take 8 (drop a s)) + 1 < 18446744073709551616))
+  eight = rw (part 8 a s k) at (ff-number (take 8 (drop a s)) (Bytes-take 8 (drop a s) (Bytes-drop a s (bytes-all s h))))
+
+  pub ff-eight-yes : ofLe (take 8 (drop a s)) ≡ 18446744073709551615 → allFF (drop a s) ≡ allFF (drop (a + 8) s)
+  ff-eight-yes e = rw (ff-part s a) (⊎-elim (λ y. rw (y .0)) (λ n. absurd (omega (arith, n .1, e))) eight)
+
+  pub ff-eight-no : (ofLe (take 8 (drop a s)) ≡ 18446744073709551615 → ⊥) → allFF (drop a s) ≡ false
+  ff-eight-no e = rw (ff-part s a) (⊎-elim (λ y. absurd (e (omega (arith, y .1)))) (λ n. rw (n .0)) eight)
 
 -- ---- the loops that change the image
 

@@ -5,20 +5,6 @@ ghost use lib.ListN.{length, take, drop, replicate};
 ghost use Rattle.rules.specs.Bytes.{zeroBits, zeros, allFF, ofLe, roundUp, splice, program};
 ghost use Rattle.rules.specs.Items.{size};
 
-// Are all bytes 0xFF?
-pub fn all_ff(s: &[u8]) -> bool
-    ensures { λ r. ⌜ r ≡ allFF (now (s .entry)) ⌝ }
-{
-    let mut i: usize = 0;
-    while i < s.len() {
-        if s[i] != 255 {
-            return false;
-        }
-        i += 1;
-    }
-    true
-}
-
 // A byte as a number, with its bound.
 pub fn wide(b: u8) -> usize
     ensures { λ r. ⌜ (r ≡ b) × (r < 256) ⌝ }
@@ -39,20 +25,6 @@ pub fn zero_bits(b: u8) -> u32
     8 - u8::count_ones(b)
 }
 
-// The zero bits of the bytes.
-pub fn zeros(s: &[u8]) -> u32
-    requires { ⌜ length (now s) ≤ 65536 ⌝ }
-    ensures { λ r. ⌜ (r ≡ zeros (now (s .entry))) × (r ≤ 8 * length (now (s .entry))) ⌝ }
-{
-    let mut k: u32 = 0;
-    let mut i: usize = 0;
-    while i < s.len() {
-        k += zero_bits(s[i]);
-        i += 1;
-    }
-    k
-}
-
 // The number that the two bytes at a spell, the lower first.
 pub fn le16(s: &[u8], a: usize) -> usize
     requires { ⌜ a + 2 ≤ length (now s) ⌝ }
@@ -69,11 +41,116 @@ pub fn le32(s: &[u8], a: usize) -> u32
     wide32(s[a]) + 256 * wide32(s[a + 1]) + 65536 * wide32(s[a + 2]) + 16777216 * wide32(s[a + 3])
 }
 
+// A word as a wider number.
+fn wide64(x: u32) -> u64
+    ensures { λ r. ⌜ (r ≡ x) × (r < 4294967296) ⌝ }
+{
+    x as u64
+}
+
+// The number that the eight bytes at a spell, the lower first.
+fn le64(s: &[u8], a: usize) -> u64
+    requires { ⌜ a + 8 ≤ length (now s) ⌝ }
+    ensures { λ r. ⌜ r ≡ ofLe (take 8 (drop a (now (s .entry)))) ⌝ }
+{
+    wide64(le32(s, a)) + 4294967296 * wide64(le32(s, a + 4))
+}
+
+// Are all bytes from i on 0xFF?
+fn ff_rest(s: &[u8], i: usize) -> bool
+    requires { ⌜ i ≤ length (now s) ⌝ }
+    ensures { λ r. ⌜ r ≡ allFF (drop i (now (s .entry))) ⌝ }
+{
+    let mut at = i;
+    while at < s.len() {
+        if s[at] != 255 {
+            return false;
+        }
+        at += 1;
+    }
+    true
+}
+
+// Are all bytes 0xFF? Eight are looked at together.
+pub fn all_ff(s: &[u8]) -> bool
+    ensures { λ r. ⌜ r ≡ allFF (now (s .entry)) ⌝ }
+{
+    let mut i: usize = 0;
+    while 8 <= s.len() - i {
+        if le64(s, i) != 18446744073709551615 {
+            return false;
+        }
+        i += 8;
+    }
+    ff_rest(s, i)
+}
+
+// The zero bits of the four bytes at a.
+fn zeros4(s: &[u8], a: usize) -> u32
+    requires { ⌜ a + 4 ≤ length (now s) ⌝ }
+    ensures { λ r. ⌜ (r ≡ zeros (take 4 (drop a (now (s .entry))))) × (r ≤ 32) ⌝ }
+{
+    32 - u32::count_ones(le32(s, a))
+}
+
+// The zero bits of the eight bytes at a.
+fn zeros8(s: &[u8], a: usize) -> u32
+    requires { ⌜ a + 8 ≤ length (now s) ⌝ }
+    ensures { λ r. ⌜ (r ≡ zeros (take 8 (drop a (now (s .entry))))) × (r ≤ 64) ⌝ }
+{
+    64 - u64::count_ones(le64(s, a))
+}
+
+// The zero bits of the bytes from i on, byte by byte.
+fn zeros_last(s: &[u8], i: usize) -> u32
+    requires { ⌜ (i ≤ length (now s)) × (length (now s) ≤ 65536) ⌝ }
+    ensures { λ r. ⌜ (r ≡ zeros (drop i (now (s .entry)))) × (r + 8 * i ≤ 8 * length (now (s .entry))) ⌝ }
+{
+    let mut k: u32 = 0;
+    let mut at = i;
+    while at < s.len() {
+        k += zero_bits(s[at]);
+        at += 1;
+    }
+    k
+}
+
+// The zero bits of the bytes from i on, the first four together.
+fn zeros_rest(s: &[u8], i: usize) -> u32
+    requires { ⌜ (i ≤ length (now s)) × (length (now s) ≤ 65536) ⌝ }
+    ensures { λ r. ⌜ (r ≡ zeros (drop i (now (s .entry)))) × (r + 8 * i ≤ 8 * length (now (s .entry))) ⌝ }
+{
+    if 4 <= s.len() - i {
+        return zeros4(s, i) + zeros_last(s, i + 4);
+    }
+    zeros_last(s, i)
+}
+
+// The zero bits of the bytes, eight counted together. Most calls count a word of four.
+pub fn zeros(s: &[u8]) -> u32
+    requires { ⌜ length (now s) ≤ 65536 ⌝ }
+    ensures { λ r. ⌜ (r ≡ zeros (now (s .entry))) × (r ≤ 8 * length (now (s .entry))) ⌝ }
+{
+    if s.len() == 4 {
+        return zeros4(s, 0);
+    }
+    let mut k: u32 = 0;
+    let mut i: usize = 0;
+    while 8 <= s.len() - i {
+        k += zeros8(s, i);
+        i += 8;
+    }
+    k + zeros_rest(s, i)
+}
+
 // x rounded up to a multiple of a word.
 pub fn round_up(w: usize, x: usize) -> usize
     requires { ⌜ (4 ≤ w) × (w ≤ 8) × (x < 2 ^ 63) ⌝ }
     ensures { λ r. ⌜ (r ≡ roundUp w x) × (x ≤ r) × (r < x + w) ⌝ }
 {
+    if w == 4 {
+        return (x + 3) / 4 * 4;
+    }
     (x + (w - 1)) / w * w
 }
 

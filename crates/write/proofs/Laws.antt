@@ -3,7 +3,7 @@ use mathlib.Core.Path.{_≡_, refl, sym, ap, _∙_}
 use Prim.Native.Nat.{ℕ, zero, suc, _+_, _-_, _%_, _≤_, _<_}
 use native.Mathlib.Omega.{arith}
 use native.Mathlib.Numerals.{add-one}
-use native.Mathlib.Nat.{add-mod, zero-mod, mod-self}
+use native.Mathlib.Nat.{zero-add, add-mod, zero-mod, mod-self}
 use mathlib.Core.Bool.{Bool, true, false}
 use lib.Dec.{ltb}
 use borrow.Author.Tests.{ltb-true, ltb-false}
@@ -205,49 +205,59 @@ item-written l l₁ l₂ at w k C H v hw h8 room hC hH e₁ e₂ =
 
 -- ---- copies
 
--- one more byte of a word that is built
-pub word-turn : (img : List ℕ) (s j : ℕ) → j < 8 → s + j < length img
-    → set (take j (drop s img) ++ replicate (8 - j) 255) j (getD img (s + j) 0) ≡ take (j + 1) (drop s img) ++ replicate (8 - (j + 1)) 255
-word-turn img s j h g =
-    let q : 8 - j ≡ suc (8 - (j + 1)) = omega arith in
+-- one more byte of N that are built
+pub word-turn : (N : ℕ) (img : List ℕ) (s j : ℕ) → j < N → s + j < length img
+    → set (take j (drop s img) ++ replicate (N - j) 255) j (getD img (s + j) 0) ≡ take (j + 1) (drop s img) ++ replicate (N - (j + 1)) 255
+word-turn N img s j h g =
+    let q : N - j ≡ suc (N - (j + 1)) = omega arith in
     let ld = length-drop s img in
     let lj : length (take j (drop s img)) ≡ j = length-take-le j (drop s img) (omega arith) in
-    rw (q, ← getD-drop s img j 0, set-at (take j (drop s img)) 255 (replicate (8 - (j + 1)) 255) (getD (drop s img) j 0) j lj, add-one, take-suc (drop s img) j 0 (omega arith))
-    (sym (append-snoc (take j (drop s img)) (getD (drop s img) j 0) (replicate (8 - suc j) 255)))
+    rw (q, ← getD-drop s img j 0, set-at (take j (drop s img)) 255 (replicate (N - (j + 1)) 255) (getD (drop s img) j 0) j lj, add-one, take-suc (drop s img) j 0 (omega arith))
+    (sym (append-snoc (take j (drop s img)) (getD (drop s img) j 0) (replicate (N - suc j) 255)))
 
 -- the first w bytes of it
 pub word-taken : (x : List ℕ) (m w : ℕ) → length x ≡ m → m ≤ w → w ≤ 8 → take w (x ++ replicate (8 - m) 255) ≡ x ++ replicate (w - m) 255
 word-taken x m w l h g =
     rw (take-over w x (replicate (8 - m) 255) (omega arith), l) (ap (λ (y : List ℕ). x ++ y) (window-replicate (8 - m) 0 (w - m) 255 (omega arith)))
 
--- what a word of a copy holds: bytes of the source alone, or its last ones and 0xFF
+-- what the last word of a copy holds: the last bytes of the source and 0xFF
 module _ (img : List ℕ) (s n w i : ℕ) (h8 : w ≤ 8) (hi : i < n) (hs : s + n ≤ length img) where
-  length-part : length (take n (drop s img)) ≡ n
-  length-part = length-take-le n (drop s img) (rw length-drop (omega arith))
-
-  part-is : drop i (take n (drop s img)) ≡ take (n - i) (drop (s + i) img)
-  part-is = drop-take i n (drop s img) ∙ rw (drop-drop i s img)
-
-  pub next-full : w ≤ n - i → take w (drop (s + i) img) ++ replicate (w - w) 255 ≡ take w (from (take n (drop s img)) i 8)
-  next-full h =
-      let z : w - w ≡ 0 = omega arith in
-      let X : List ℕ = take n (drop s img) in
-      let l = length-part in
-      rw (z, append-nil (take w (drop (s + i) img)))
-      (sym (take-from X i w 8 h8 ∙ sym (from-is X i w (omega arith)) ∙ rw (part-is) (take-take w (n - i) (drop (s + i) img) h)))
-
   pub next-short : n - i < w → take (n - i) (drop (s + i) img) ++ replicate (w - (n - i)) 255 ≡ take w (from (take n (drop s img)) i 8)
   next-short h =
       let X : List ℕ = take n (drop s img) in
-      let l = length-part in
+      let l : length X ≡ n = length-take-le n (drop s img) (rw length-drop (omega arith)) in
       let lr = length-replicate {A = ℕ} w 255 in
       let la = length-append X (replicate w 255) in
       let ld : length (drop i X) ≡ n - i = rw length-drop (omega arith) in
+      let part : drop i X ≡ take (n - i) (drop (s + i) img) = drop-take i n (drop s img) ∙ rw (drop-drop i s img) in
       sym (word-of X w i w h8 (omega arith)
-      ∙ rw (drop-append-le i X (replicate w 255) (omega arith), take-over w (drop i X) (replicate w 255) (omega arith), ld, part-is)
+      ∙ rw (drop-append-le i X (replicate w 255) (omega arith), take-over w (drop i X) (replicate w 255) (omega arith), ld, part)
       (ap (λ (y : List ℕ). take (n - i) (drop (s + i) img) ++ y) (window-replicate w 0 (w - (n - i)) 255 (omega arith))))
 
+-- ---- a copy of bytes, block by block
+
+module _ (img₀ : List ℕ) (s m t : ℕ) (hs : s + m ≤ length img₀) (ht : t + m ≤ length img₀) (img img′ : List ℕ) (i k : ℕ) (hk : i + k ≤ m)
+    (li : length img ≡ length img₀) (same : take m (drop s img) ≡ take m (drop s img₀)) (e : img′ ≡ program img (t + i) (take k (drop (s + i) img))) where
+  whole-is : length (take m (drop s img₀)) ≡ m
+  whole-is = length-take-le m (drop s img₀) (rw length-drop (omega arith))
+
+  block-is : take k (drop (s + i) img) ≡ take k (drop i (take m (drop s img₀)))
+  block-is =
+      sym (ap (λ (x : List ℕ). take k (drop i x)) (sym same) ∙ rw (drop-take i m (drop s img), drop-drop i s img) (take-take k (m - i) (drop (s + i) img) (omega arith)))
+
+  pub block-left : program img (t + i) (drop i (take m (drop s img₀))) ≡ program img′ (t + (i + k)) (drop (i + k) (take m (drop s img₀)))
+  block-left = let l = whole-is in piece img img′ (take m (drop s img₀)) (take k (drop (s + i) img)) t i k (omega arith) (omega arith) block-is e
+
+  pub block-source : ((s + m ≤ t) ⊎ (t + m ≤ s)) → take m (drop s img′) ≡ take m (drop s img₀)
+  block-source d =
+      let lx : length (take k (drop (s + i) img)) ≤ k = rw (length-take k (drop (s + i) img)) (omega arith) in
+      rw e (program-window img (t + i) (take k (drop (s + i) img)) (omega arith) s m (⊎-elim (λ x. inl (omega arith)) (λ x. inr (omega arith)) d) ∙ same)
+
 -- ---- a copy of an item
+
+pub item-long : (w len : ℕ) → 4 ≤ w → 8 + len ≤ size w len
+unfolding size
+item-long w len hw = omega (arith, le-roundUp w len (omega arith))
 
 module _ (img₀ : List ℕ) (s len t w : ℕ) (hw : 4 ≤ w) (h8 : w ≤ 8) (h8w : 8 % w ≡ 0) (hs : s + 8 + len ≤ length img₀) where
   pub length-copy : length (copyBytes w img₀ s len) ≡ size w len
@@ -270,23 +280,44 @@ module _ (img₀ : List ℕ) (s len t w : ℕ) (hw : 4 ≤ w) (h8 : w ≤ 8) (h8
   copy-in i hi lt =
       word-in w i (length (copyBytes w img₀ s len)) hi copy-on (rw length-copy (omega (arith, le-roundUp w len (omega arith))))
 
-  -- a turn: the word at i is programmed, and the source stays
-  module _ (img img′ : List ℕ) (i : ℕ) (hi : i % w ≡ 0) (lt : i < 8 + len) (li : length img ≡ length img₀) (ht : t + size w len ≤ length img₀)
-      (same : take (8 + len) (drop s img) ≡ take (8 + len) (drop s img₀))
-      (e : img′ ≡ program img (t + i) (take w (from (take (8 + len) (drop s img)) i 8))) where
-    copy-word : take w (from (take (8 + len) (drop s img)) i 8) ≡ take w (drop i (copyBytes w img₀ s len))
-    unfolding copyBytes pad
-    copy-word = ap (λ (x : List ℕ). take w (from x i 8)) same ∙ word-of (take (8 + len) (drop s img₀)) (roundUp w len - len) i w h8 (copy-in i hi lt)
+  -- the whole words up to m are programmed
+  module _ (img : List ℕ) (m : ℕ) (hm : m % w ≡ 0) (le : m ≤ 8 + len) (lt : 8 + len < m + w) (ht : t + size w len ≤ length img₀)
+      (d : (s + 8 + len ≤ t) ⊎ (t + size w len ≤ s)) (e : img ≡ program img₀ t (take m (drop s img₀))) where
+    front : take m (drop s img₀) ≡ take m (drop 0 (copyBytes w img₀ s len))
+    unfolding copyBytes
+    front =
+        let l : length (take (8 + len) (drop s img₀)) ≡ 8 + len = length-take-le (8 + len) (drop s img₀) (rw length-drop (omega arith)) in
+        sym (take-append-le m (take (8 + len) (drop s img₀)) (pad w len) (omega arith) ∙ take-take m (8 + len) (drop s img₀) le)
 
-    pub copy-left : program img (t + i) (drop i (copyBytes w img₀ s len)) ≡ program img′ (t + (i + w)) (drop (i + w) (copyBytes w img₀ s len))
-    copy-left =
-        piece img img′ (copyBytes w img₀ s len) (take w (from (take (8 + len) (drop s img)) i 8)) t i w (copy-in i hi lt)
-        (omega (arith, length-copy)) copy-word e
-
-    pub copy-source : ((s + 8 + len ≤ t) ⊎ (t + size w len ≤ s)) → take (8 + len) (drop s img′) ≡ take (8 + len) (drop s img₀)
-    copy-source d =
-        let lx : length (take w (from (take (8 + len) (drop s img)) i 8)) ≤ w = rw (length-take w (from (take (8 + len) (drop s img)) i 8)) (omega arith) in
-        let ci = copy-in i hi lt in
+    fronted : program img₀ t (copyBytes w img₀ s len) ≡ program img (t + m) (drop m (copyBytes w img₀ s len))
+    fronted =
         let lc = length-copy in
-        rw e (program-window img (t + i) (take w (from (take (8 + len) (drop s img)) i 8)) (omega arith) s (8 + len)
-        (⊎-elim (λ x. inl (omega arith)) (λ x. inr (omega arith)) d) ∙ same)
+        let lo = item-long w len hw in
+        let z : t + 0 ≡ t = omega arith in
+        rw (z, zero-add m) at (piece img₀ img (copyBytes w img₀ s len) (take m (drop s img₀)) t 0 m (omega arith) (omega arith) front (rw z e))
+
+    -- no byte is left
+    pub copy-done : 8 + len ≤ m → img ≡ program img₀ t (copyBytes w img₀ s len)
+    copy-done h =
+        let lc = length-copy in
+        let lo = item-long w len hw in
+        sym (fronted ∙ all-written img (copyBytes w img₀ s len) t w m (8 + len) hm copy-on copy-lt h (omega arith))
+
+    kept : take (8 + len) (drop s img) ≡ take (8 + len) (drop s img₀)
+    kept =
+        let lx : length (take m (drop s img₀)) ≤ m = rw (length-take m (drop s img₀)) (omega arith) in
+        let lo = item-long w len hw in
+        rw e (program-window img₀ t (take m (drop s img₀)) (omega arith) s (8 + len) (⊎-elim (λ x. inl (omega arith)) (λ x. inr (omega arith)) d))
+
+    -- the last bytes are a word with padding
+    pub copy-last : length img ≡ length img₀ → m < 8 + len → (img′ : List ℕ) → img′ ≡ program img (t + m) (take (8 + len - m) (drop (s + m) img) ++ replicate (w - (8 + len - m)) 255)
+        → img′ ≡ program img₀ t (copyBytes w img₀ s len)
+    unfolding copyBytes pad
+    copy-last li h img′ e′ =
+        let lc = length-copy in
+        let ci = copy-in m hm h in
+        let e″ : img′ ≡ program img (t + m) (take w (from (take (8 + len) (drop s img)) m 8)) = e′ ∙ ap (program img (t + m)) (next-short img s (8 + len) w m h8 h (omega arith) (omega arith)) in
+        let word : take w (from (take (8 + len) (drop s img)) m 8) ≡ take w (drop m (copyBytes w img₀ s len)) =
+        ap (λ (x : List ℕ). take w (from x m 8)) kept ∙ word-of (take (8 + len) (drop s img₀)) (roundUp w len - len) m w h8 ci in
+        let left = piece img img′ (copyBytes w img₀ s len) (take w (from (take (8 + len) (drop s img)) m 8)) t m w ci (omega arith) word e″ in
+        sym (fronted ∙ left ∙ all-written img′ (copyBytes w img₀ s len) t w (m + w) (8 + len) (on-word w m w hm (mod-self w)) copy-on copy-lt (omega arith) ci)

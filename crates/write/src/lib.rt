@@ -139,17 +139,39 @@ fn copy_word(img: &mut [u8], source: usize, m: usize, target: usize, w: usize)
     words::program(img, target, &word[..w]);
 }
 
-// Programs the word of a copy of n bytes that stands i bytes behind its start; past the n bytes it is 0xFF.
-fn copy_next(img: &mut [u8], source: usize, n: usize, target: usize, w: usize, i: usize)
-    requires { ⌜ (w ≤ 8) × (i < n) × (source + n ≤ length (now img)) × (target + i + w ≤ length (now img)) ⌝ }
-    ensures { λ _. ⌜ now (img .exit) ≡ program (now (img .entry)) (target + i) (take w (from (take n (drop source (now (img .entry)))) i 8)) ⌝ }
+// Programs m bytes of the image, at most 64, from elsewhere in it.
+fn copy_block(img: &mut [u8], source: usize, m: usize, target: usize)
+    requires { ⌜ (m ≤ 64) × (source + m ≤ length (now img)) × (target + m ≤ length (now img)) ⌝ }
+    ensures { λ _. ⌜ now (img .exit) ≡ program (now (img .entry)) target (take m (drop source (now (img .entry)))) ⌝ }
 {
-    let rest = n - i;
-    if rest < w {
-        copy_word(img, source + i, rest, target + i, w);
-        return;
+    let mut block = [255u8; 64];
+    let mut j: usize = 0;
+    while j < m {
+        block[j] = img[source + j];
+        j += 1;
     }
-    copy_word(img, source + i, w, target + i, w);
+    words::program(img, target, &block[..m]);
+}
+
+// How many of the bytes that are left the next block takes.
+fn block_len(left: usize) -> usize
+    requires { ⌜ 0 < left ⌝ }
+    ensures { λ r. ⌜ (0 < r) × (r ≤ 64) × (r ≤ left) ⌝ }
+{
+    if left < 64 { left } else { 64 }
+}
+
+// Programs m bytes of the image from elsewhere in it.
+fn copy_bytes(img: &mut [u8], source: usize, m: usize, target: usize)
+    requires { ⌜ (source + m ≤ length (now img)) × (target + m ≤ length (now img)) × ((source + m ≤ target) ⊎ (target + m ≤ source)) ⌝ }
+    ensures { λ _. ⌜ now (img .exit) ≡ program (now (img .entry)) target (take m (drop source (now (img .entry)))) ⌝ }
+{
+    let mut i: usize = 0;
+    while i < m {
+        let k = block_len(m - i);
+        copy_block(img, source + i, k, target + i);
+        i += k;
+    }
 }
 
 // Programs a copy of the item of data length len: header and data as they stand, padding 0xFF.
@@ -159,9 +181,9 @@ pub fn copy_item(img: &mut [u8], source: usize, len: usize, target: usize, w: us
     ensures { λ _. ⌜ now (img .exit) ≡ program (now (img .entry)) target (take (8 + len) (drop source (now (img .entry))) ++ pad w len) ⌝ }
 {
     let n = 8 + len;
-    let mut i: usize = 0;
-    while i < n {
-        copy_next(img, source, n, target, w, i);
-        i += w;
+    let m = whole(n, w);
+    copy_bytes(img, source, m, target);
+    if m < n {
+        copy_word(img, source + m, n - m, target + m, w);
     }
 }

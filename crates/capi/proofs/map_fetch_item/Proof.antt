@@ -1,9 +1,7 @@
 -- `capi::map_fetch_item` meets its contract.
 use Rattle.rules.specs.Calls.{fetchItem}
-use Rattle.map.specs.Code.{lentOf, toldOf}
-use Rattle.capi.proofs.Small.{told-fits}
-use Rattle.capi.proofs.Ends.{no-cache, no-out, told}
-use native.Mathlib.Omega.{arith}
+use Rattle.capi.proofs.Ends.{no-cache, no-out}
+use Rattle.capi.proofs.Still.{still-told, still-fits}
 use borrow.Author.Needs.{needs}
 use Rattle.capi.proofs.map_fetch_item.Statement.{statement}
 use Rattle.capi.proofs.map_fetch_item.Tie as tie
@@ -18,23 +16,24 @@ returns-2 c =
     let a = c .before .before .before .before .before .args in
     no-out (a .page) (a .size) (fetchItem (a .key)) (a .img .now) (a .cache .now) (a .out .now) (c .before .if1 .left) (c .if2 .taken)
 
-finish-requires : tie.Need-finish-requires
-finish-requires c κs =
-    let a = c .before .before .before .before .before .before .before .before .before .before .before .before .before .args in
-    let held = c .before .before .before .before .before .before .cache-of in
-    let r = c .before .before .before .before .fetch-item in
-    (omega arith, omega arith, told-fits (a .page) (a .size) (fetchItem (a .key)) (lentOf (a .img .now) (held .result)) (toldOf (r .last .0) (r .result)) (r .ensures))
+put-out-requires : tie.Need-put-out-requires
+put-out-requires c κs =
+    let a = c .before .before .before .before .before .before .before .before .before .before .before .args in
+    let t = c .before .before .before .fetch-still in
+    let n = c .before .before .number in
+    (c .before .before .before .before .before .before .if2 .left, still-fits (a .page) (a .size) (a .key) (a .img .now) (a .cache .now) (t .result) (t .ensures) (n .result) (n .ensures) (c .before .if3 .left))
 
-returns-3 : tie.Need-returns-3
-returns-3 c =
-    let a = c .before .before .before .before .before .before .before .before .before .before .before .before .before .before .before .before .before .before .args in
-    let held = c .before .before .before .before .before .before .before .before .before .before .before .cache-of in
-    let r = c .before .before .before .before .before .before .before .before .before .fetch-item in
-    let f = c .before .before .before .before .finish in
-    told (a .page) (a .size) (fetchItem (a .key)) (a .img .now) (a .cache .now) (a .out .now) (c .before .before .before .before .before .before .before .before .before .before .before .before .before .before .if1 .left) (c .before .before .before .before .before .before .before .before .before .before .before .before .before .if2 .left) (held .result) (held .ensures) (r .last .0) (r .result) (r .ensures) (f .result) (f .last .0) (f .last .1 .0) (f .ensures)
+returns-4 : tie.Need-returns-4
+returns-4 c =
+    let a = c .before .before .before .before .before .before .before .before .before .before .before .before .before .before .before .args in
+    let t = c .before .before .before .before .before .before .before .fetch-still in
+    let n = c .before .before .before .before .before .before .number in
+    let o = c .before .before .before .put-out in
+    still-told (a .page) (a .size) (a .key) (a .img .now) (a .cache .now) (a .out .now) (c .before .before .before .before .before .before .before .before .before .before .before .if1 .left) (c .before .before .before .before .before .before .before .before .before .before .if2 .left) (t .result) (t .ensures) (n .result) (n .ensures) (c .before .before .before .before .before .if3 .left) (c .number2 .result) (o .last .0) (c .number2 .ensures) (o .ensures)
 
 pub map-fetch-item-spec : {M : Type 1} → statement M
 map-fetch-item-spec =
     tie.close (tie.spec
-    returns returns-2 (λ c κs. search needs) (λ c κs. search needs) finish-requires (λ c. search needs) (λ c. search needs)
-    (λ c. search needs) returns-3)
+    returns returns-2 (λ c κs. search needs) (λ c κs. search needs) (λ c κs. search needs) (λ c. search needs) (λ c. search needs)
+    (λ c. search needs) (λ c. search needs) put-out-requires (λ c κs. search needs) (λ c. search needs) (λ c. search needs)
+    (λ c. search needs) returns-4)

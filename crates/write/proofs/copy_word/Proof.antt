@@ -20,7 +20,7 @@ loop-holds : tie.Need-loop-holds Inv-loop μ-loop
 loop-holds c = (omega arith, refl, refl)
 
 loop-again : tie.Need-loop-again Inv-loop μ-loop
-loop-again c = let a = c .before .before .before .before .args in let l = c .before .before .loop in (omega arith, ap (λ x. x) (rw (l .inv .1) (word-turn (a .img .now) (a .source) (l .j) (omega arith) (omega arith))), search needs)
+loop-again c = let a = c .before .before .before .before .args in let l = c .before .before .loop in (omega arith, ap (λ x. x) (rw (l .inv .1) (word-turn 8 (a .img .now) (a .source) (l .j) (omega arith) (omega arith))), search needs)
 
 slice-aggregate-program : tie.Need-slice-aggregate-program Inv-loop μ-loop
 slice-aggregate-program c = let l = c .before .before .before .loop .inv .2 in sym (length-take-le (c .before .before .before .before .before .args .w) (c .before .before .before .loop .word) (omega arith))

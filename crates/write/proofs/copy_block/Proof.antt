@@ -1,0 +1,50 @@
+use Rattle.rules.specs.Bytes.{program}
+use Rattle.write.proofs.Laws.{word-turn}
+use native.Mathlib.Omega.{arith}
+use mathlib.Core.Path.{_≡_, refl, ap, sym, _∙_}
+use mathlib.Core.List.{_++_}
+use Prim.Native.Nat.{_-_, _≤_}
+use lib.ListN.{length, take, drop, replicate, length-drop}
+use lib.Seq.{length-take-le, take-at}
+use borrow.Author.Needs.{needs}
+use Rattle.write.proofs.copy_block.Statement.{statement}
+use Rattle.write.proofs.copy_block.Tie as tie
+
+abbrev Inv-loop : tie.InvT-loop
+Inv-loop img source m target block₀ j₀ block j = (j ≤ m) × (block ≡ take j (drop source img) ++ replicate (64 - j) 255) × (length block ≡ 64)
+
+abbrev μ-loop : tie.MeasureT-loop
+μ-loop img source m target block₀ j₀ block j = m - j
+
+loop-holds : tie.Need-loop-holds Inv-loop μ-loop
+loop-holds c = (omega arith, refl, refl)
+
+loop-again : tie.Need-loop-again Inv-loop μ-loop
+loop-again c =
+    let a = c .before .before .before .before .args in
+    let l = c .before .before .loop in
+    (omega arith, ap (λ x. x) (rw (l .inv .1) (word-turn 64 (a .img .now) (a .source) (l .j) (omega arith) (omega arith))), search needs)
+
+slice-aggregate-program : tie.Need-slice-aggregate-program Inv-loop μ-loop
+slice-aggregate-program c =
+    let l = c .before .before .before .loop .inv .2 in
+    sym (length-take-le (c .before .before .before .before .before .args .m) (c .before .before .before .loop .block) (omega arith))
+
+program-requires : tie.Need-program-requires Inv-loop μ-loop
+program-requires c κs =
+    omega (arith, length-take-le (c .before .before .before .before .before .args .m) (c .before .before .before .loop .block) (omega (arith, c .before .before .before .loop .inv .2)))
+
+returns : tie.Need-returns Inv-loop μ-loop
+returns c =
+    let a = c .before .before .before .before .before .before .before .before .args in
+    let l = c .before .before .before .before .before .before .loop in
+    let q : l .j ≡ a .m = omega arith in
+    let lx : length (take (a .m) (drop (a .source) (a .img .now))) ≡ a .m = length-take-le (a .m) (drop (a .source) (a .img .now)) (rw length-drop (omega arith)) in
+    c .before .before .program .ensures
+    ∙ ap (program (a .img .now) (a .target)) (ap (take (a .m)) (l .inv .1) ∙ rw q (take-at (take (a .m) (drop (a .source) (a .img .now))) (replicate (64 - a .m) 255) (a .m) lx))
+
+pub copy-block-spec : {M : Type 1} → statement M
+copy-block-spec =
+    tie.close (tie.spec
+    Inv-loop μ-loop loop-holds (λ c. search needs) (λ c. search needs) (λ c. search needs) (λ c. search needs) (λ c. search needs) loop-again
+    (λ c. search needs) slice-aggregate-program program-requires (λ c. search needs) returns)
