@@ -2,6 +2,8 @@
 mod score;
 mod turn;
 
+ghost use mathlib.Core.Path.{_≡_};
+ghost use lib.ListN.{length};
 use libc::STDOUT_FILENO;
 use lists::line;
 use lists::line::Line;
@@ -25,7 +27,6 @@ struct Reading {
 fn end_line(img: &mut [u8], space: &mut [u8], s: Stand, l: Line) -> Stand {
     let run = s.run;
     let score = s.score;
-    let n = l.numbers;
     if score.bad != 0 {
         return s;
     }
@@ -135,9 +136,23 @@ fn replay(arg: usize, img: &mut [u8], space: &mut [u8]) {
     libc::close(fd);
 }
 
+// Room for the largest image of a list.
+fn image() -> [u8; 1048576]
+    ensures { λ r. ⌜ 1048576 ≡ length r ⌝ }
+{
+    [255; 1048576]
+}
+
+// Room for the longest value of a list.
+fn longest() -> [u8; 70000]
+    ensures { λ r. ⌜ 70000 ≡ length r ⌝ }
+{
+    [0; 70000]
+}
+
 fn main() {
-    let mut img = [255u8; 1048576];
-    let mut space = [0u8; 70000];
+    let mut img = image();
+    let mut space = longest();
     let count = os::arg_count();
     let mut k: usize = 1;
     while k < count {

@@ -134,7 +134,7 @@ fn new_run(img: &mut [u8], run: Run, l: Line) -> Turned {
     if img.len() < len {
         return unreadable(run);
     }
-    value::fill(&mut img[..len], 255, 0);
+    value::fill(&mut img[0..len], 255, 0);
     let a = map::try_new(wide(n[0]), len, wide(n[2]));
     Turned {
         run: started(wide(n[0]), len, wide(n[2])),
@@ -152,8 +152,8 @@ fn store(img: &mut [u8], space: &mut [u8], run: Run, l: Line) -> Turned {
     if space.len() < len {
         return unreadable(run);
     }
-    value::fill(&mut space[..len], byte(n[2]), byte(n[3]));
-    going_on(run, play::store(img, run, n[0], &space[..len], says(n, 4)))
+    value::fill(&mut space[0..len], byte(n[2]), byte(n[3]));
+    going_on(run, play::store(img, run, n[0], &space[0..len], says(n, 4)))
 }
 
 // f: a fetch, of none or of a value.
@@ -249,5 +249,5 @@ pub fn take(img: &mut [u8], space: &mut [u8], run: Run, l: Line) -> Turned {
     if img.len() < len {
         return unreadable(run);
     }
-    call(&mut img[..len], space, run, l)
+    call(&mut img[0..len], space, run, l)
 }
