@@ -82,7 +82,7 @@ struct Plan {
 
 const FILLING: &[u8] = b"sssssssssssssssssssssssssssssssssssssssfffffffrw";
 const MIXED: &[u8] = b"ssssssssssssssssssssssssffffffffrrrwae";
-const REMOVING: &[u8] = b"ssssssssssssssssssssssssffffffffffffrrrrrrrrrrrrwaaae";
+const REMOVING: &[u8] = b"ssssssssssssssssssssssssffffffffffffffrrrrrrrrrrrrwae";
 
 /// `k` different keys, the special ones first.
 fn keys(dice: &mut Dice, k: usize) -> Vec<u32> {
@@ -109,13 +109,14 @@ fn plan(dice: &mut Dice, e: usize, n: usize) -> Plan {
 /// Writes the lines of a list, and counts its calls.
 pub struct List<W: Write> {
     out: W,
+    seed: u64,
     dice: Dice,
     calls: usize,
 }
 
 impl<W: Write> List<W> {
     pub fn new(out: W, seed: u64) -> Self {
-        Self { out, dice: Dice(seed), calls: 0 }
+        Self { out, seed, dice: Dice(seed << 1 | 1), calls: 0 }
     }
 
     /// A call's line: the call with its inputs, what every call has, and `more`.
@@ -243,7 +244,7 @@ impl<W: Write> List<W> {
 
     /// Rounds until there are this many calls, at least one.
     pub fn write(mut self, calls: usize) -> Result<()> {
-        writeln!(self.out, "{HEADER}\n# Seed {}. The text, bytes and digests:", self.dice.0)?;
+        writeln!(self.out, "{HEADER}\n# Seed {}. The text: bytes and digest of each file.", self.seed)?;
         for (name, text) in sequential_storage::FILES {
             writeln!(self.out, "#   {name} {} {}", text.len(), digest(text.iter().map(|&b| u32::from(b))))?;
         }

@@ -1,4 +1,5 @@
 -- How a line of a list is read, byte by byte.
+use mathlib.Core.Path.{_≡_, refl}
 use Prim.Native.Nat.{ℕ, _+_, _-_, _*_}
 use mathlib.Core.Bool.{true, false}
 use mathlib.Core.List.{List, [], _∷_}
@@ -42,3 +43,10 @@ readByte l b =
 abbrev pub readAll : Line → List ℕ → Line
 readAll l [] = l
 readAll l (b ∷ bs) = readAll (readByte l b) bs
+
+-- "f 12 0", the largest number, and one more
+pub examples : (readAll blank (102 ∷ 32 ∷ 49 ∷ 50 ∷ 32 ∷ 48 ∷ []) ≡ record { letter = 102; count = 2; due = false; numbers = 12 ∷ replicate 7 0 })
+    × (readAll blank (114 ∷ 32 ∷ 52 ∷ 50 ∷ 57 ∷ 52 ∷ 57 ∷ 54 ∷ 55 ∷ 50 ∷ 57 ∷ 53 ∷ []) ≡ record { letter = 114; count = 1; due = false; numbers = 4294967295 ∷ replicate 7 0 })
+    × (readAll blank (114 ∷ 32 ∷ 52 ∷ 50 ∷ 57 ∷ 52 ∷ 57 ∷ 54 ∷ 55 ∷ 50 ∷ 57 ∷ 54 ∷ []) ≡ broken)
+unfolding begun grown readByte
+examples = (refl, refl, refl)

@@ -1,7 +1,7 @@
 // The count of a list's lines, and the report of it.
-use lists::line::Line;
 use crate::turn::Fate;
 use libc::STDOUT_FILENO;
+use lists::line::Line;
 use std::num::wrapping_add_u64;
 
 // Lines read, runs and calls in them, calls that differ, the first line that can't be read (0: none), the end seen.
@@ -93,22 +93,23 @@ fn say(words: &[u8], number: u64) {
     io::print_decimal(STDOUT_FILENO, number);
 }
 
-// The count of a list.
+// What a list's count says.
 pub fn report(s: Score) {
     say(b"  ", s.calls);
     say(b" calls in ", s.runs);
-    if s.wrong == 0 {
-        io::write_all(STDOUT_FILENO, b" runs: all answers equal\n");
-    } else {
-        say(b" runs: ", s.wrong);
-        io::write_all(STDOUT_FILENO, b" differ\n");
-    }
+    say(b" runs, ", s.wrong);
+    io::write_all(STDOUT_FILENO, b" differ\n");
     if s.bad != 0 {
         say(b"  line ", s.bad);
         io::write_all(STDOUT_FILENO, b" can't be read\n");
+        return;
     }
     if !s.ended {
         io::write_all(STDOUT_FILENO, b"  the list has no end\n");
+        return;
+    }
+    if s.wrong == 0 {
+        io::write_all(STDOUT_FILENO, b"  all answers are equal\n");
     }
 }
 

@@ -9,4 +9,6 @@ returns : tie.Need-returns
 returns c = sym (length-replicate {0} {A = ℕ} 1048576 255)
 
 pub image-spec : {M : Type 1} → statement M
-image-spec = tie.close (tie.spec returns)
+image-spec =
+    tie.close (tie.spec
+    returns)

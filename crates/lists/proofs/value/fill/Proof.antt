@@ -1,3 +1,4 @@
+-- `lists::value::fill` meets its contract: the bytes written, and then the value from here on, are the value.
 use native.Mathlib.Nat.{sub-zero}
 use Rattle.lists.specs.Says.{valueOf}
 use Rattle.lists.proofs.Laws.{value-step, value-end}
@@ -9,9 +10,6 @@ use lib.ListN.{length, take, length-set}
 use borrow.Author.Needs.{needs}
 use Rattle.lists.proofs.value.fill.Statement.{statement}
 use Rattle.lists.proofs.value.fill.Tie as tie
-use Rattle.lists.proofs.value.fill.Reads as reads
-use Rattle.lists.proofs.value.fill.Lts as lts
-use Rattle.std.proofs.num.wrapping_add_u8.Reads as wrapping-add-u8-reads
 
 abbrev Inv-loop : tie.InvT-loop
 Inv-loop s₀ first step b₀ i₀ s b i = (i ≤ length s₀) × (length s ≡ length s₀) × (take i s ++ valueOf (length s₀ - i) b step ≡ valueOf (length s₀) first step)
@@ -19,38 +17,15 @@ Inv-loop s₀ first step b₀ i₀ s b i = (i ≤ length s₀) × (length s ≡ 
 abbrev μ-loop : tie.MeasureT-loop
 μ-loop s₀ first step b₀ i₀ s b i = length s₀ - i
 
--- src/value.rt:13:5
 loop-holds : tie.Need-loop-holds Inv-loop μ-loop
 loop-holds c = (omega arith, refl, rw (sub-zero (length (c .before .args .s .now))))
 
--- src/value.rt:14:9
-slice-write-s : tie.Need-slice-write-s Inv-loop μ-loop
-slice-write-s c = search needs
-
--- src/value.rt:15:9
-wrapping-add-u8-requires : tie.Need-wrapping-add-u8-requires Inv-loop μ-loop
-wrapping-add-u8-requires c κs = search needs
-
--- src/value.rt:16:9
-add-i : tie.Need-add-i Inv-loop μ-loop
-add-i c = search needs
-
--- src/value.rt:13:5
-loop-less : tie.Need-loop-less Inv-loop μ-loop
-loop-less c = search needs
-
--- src/value.rt:13:5
 loop-again : tie.Need-loop-again Inv-loop μ-loop
 loop-again c =
     let l = c .before .before .loop in
     let a = c .before .before .before .before .args in
     (omega arith, simp length-set (l .inv .1), rw (c .wrapping-add-u8 .ensures) (value-step (l .s) (length (a .s .now)) (l .i) (l .b) (a .step) (l .inv .1) (omega arith) ∙ l .inv .2))
 
--- src/value.rt:8:1
-same-length : tie.Need-same-length Inv-loop μ-loop
-same-length c = search needs
-
--- src/value.rt:8:1
 returns : tie.Need-returns Inv-loop μ-loop
 returns c =
     let l = c .before .loop in
@@ -59,15 +34,6 @@ returns c =
 
 pub fill-spec : {M : Type 1} → statement M
 fill-spec =
-    tie.close
-    (tie.spec
-    Inv-loop
-    μ-loop
-    loop-holds
-    slice-write-s
-    wrapping-add-u8-requires
-    add-i
-    loop-less
-    loop-again
-    same-length
+    tie.close (tie.spec
+    Inv-loop μ-loop loop-holds (λ c. search needs) (λ c κs. search needs) (λ c. search needs) (λ c. search needs) loop-again (λ c. search needs)
     returns)
