@@ -160,6 +160,7 @@ fn judge(img: &[u8], told: Told, s: Says, shown: bool) -> Played
     }
 }
 
+// A store.
 pub fn store(img: &mut [u8], run: Run, key: u32, value: &[u8], s: Says) -> Played
     ensures { λ r. ⌜ playedOf (now (img .exit)) r ≡ judged s true (called 4 (run .page) (run .size) (storeItem key (now (value .entry))) (lentOf (now (img .entry)) (run .cache))) ⌝ }
 {
@@ -168,6 +169,7 @@ pub fn store(img: &mut [u8], run: Run, key: u32, value: &[u8], s: Says) -> Playe
     judge(img, told, s, true)
 }
 
+// A removal of one key.
 pub fn remove(img: &mut [u8], run: Run, key: u32, s: Says) -> Played
     ensures { λ r. ⌜ playedOf (now (img .exit)) r ≡ judged s true (called 4 (run .page) (run .size) (removeItem key) (lentOf (now (img .entry)) (run .cache))) ⌝ }
 {
@@ -176,6 +178,7 @@ pub fn remove(img: &mut [u8], run: Run, key: u32, s: Says) -> Played
     judge(img, told, s, true)
 }
 
+// A removal of all keys.
 pub fn remove_all(img: &mut [u8], run: Run, s: Says) -> Played
     ensures { λ r. ⌜ playedOf (now (img .exit)) r ≡ judged s true (called 4 (run .page) (run .size) removeAllItems (lentOf (now (img .entry)) (run .cache))) ⌝ }
 {
@@ -184,6 +187,7 @@ pub fn remove_all(img: &mut [u8], run: Run, s: Says) -> Played
     judge(img, told, s, true)
 }
 
+// Erase all.
 pub fn erase_all(img: &mut [u8], run: Run, s: Says) -> Played
     ensures { λ r. ⌜ playedOf (now (img .exit)) r ≡ judged s true (called 4 (run .page) (run .size) eraseAllPages (lentOf (now (img .entry)) (run .cache))) ⌝ }
 {

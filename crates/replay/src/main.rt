@@ -116,9 +116,18 @@ fn take_all(fd: i32, img: &mut [u8], space: &mut [u8]) -> Score {
         r = take_some(fd, img, space, r);
         turns -= 1;
     }
+    closed(r)
+}
+
+// The score at a file's end: bytes after the last line end are a line that can't be read.
+fn closed(r: Reading) -> Score {
+    let l = r.line;
     let s = r.stand;
     let score = s.score;
-    score
+    if l.letter == b'\n' {
+        return score;
+    }
+    score::unreadable(score)
 }
 
 // The list that an argument names.

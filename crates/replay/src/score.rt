@@ -14,6 +14,7 @@ pub struct Score {
     pub ended: bool,
 }
 
+// Nothing counted yet.
 pub fn none() -> Score {
     Score {
         lines: 0,
@@ -25,6 +26,7 @@ pub fn none() -> Score {
     }
 }
 
+// No list has so many lines that this wraps.
 fn one_more(x: u64) -> u64 {
     wrapping_add_u64(x, 1)
 }
@@ -48,6 +50,9 @@ pub fn unreadable(s: Score) -> Score {
 // The list's end, which names the number of calls.
 pub fn ended(s: Score, l: Line) -> Score {
     let n = l.numbers;
+    if l.due {
+        return unreadable(s);
+    }
     if l.count != 1 {
         return unreadable(s);
     }
@@ -68,6 +73,7 @@ pub fn called(s: Score, starts: bool, fate: Fate) -> Score {
     }
 }
 
+// One more call.
 fn counted(s: Score, starts: bool) -> Score {
     let mut t = passed(s);
     t.calls = one_more(s.calls);
@@ -88,6 +94,7 @@ fn differed(s: Score) -> Score {
     t
 }
 
+// Words and a number, to standard output.
 fn say(words: &[u8], number: u64) {
     io::write_all(STDOUT_FILENO, words);
     io::print_decimal(STDOUT_FILENO, number);

@@ -96,6 +96,7 @@ fn nothing() -> Seen {
     }
 }
 
+// The line names no call.
 fn unreadable(run: Run) -> Turned {
     Turned {
         run,
