@@ -1,0 +1,2 @@
+-- digests and values, in the form that the loops ask
+pub mod Laws
