@@ -4,7 +4,7 @@ use mathlib.Core.Logic.{_≢_, _⊎_, ⊎-elim, inl, inr}
 use Prim.Native.Nat.{ℕ, _+_, _-_, _≤_, _<_}
 use native.Mathlib.Omega.{arith}
 use mathlib.Core.Bool.{Bool, true, false}
-use mathlib.Core.List.{List, [], _++_}
+use mathlib.Core.List.{List, []}
 use lib.ListN.{length, getD, take, drop, length-drop, take-append-drop}
 use lib.Seq.{length-take-le, take-all, getD-take, getD-drop}
 use borrow.Author.Tests.{ne-eqb, eq-eqb}
@@ -12,14 +12,13 @@ use Rattle.rules.specs.declared.{Geo.Geo, Answer.Answer, Answer.the-variants.Va
 use Rattle.rules.specs.Bytes.{pick}
 use Rattle.rules.specs.Cache.{Cache as Entries, lookup, note}
 use Rattle.rules.specs.Answers.{number, isNo, refusal}
-use Rattle.rules.specs.Runs.{St, Out, out, on}
+use Rattle.rules.specs.Runs.{out, on}
 use Rattle.rules.specs.Fetch.{Found, corrupt, missing, found, answerOf, noteFound, newest, hit, fetchIn, runFetch, plainFetch}
 use Rattle.rules.specs.Pages.{anyCorrupted}
 use Rattle.rules.specs.Store.{looked, autoRepair, fetch}
-use Rattle.rules.specs.Calls.{Told as Handed, Lent, noCursor, geoOf, behind, called, fetchItem, fetchPlain}
-use Rattle.items.specs.declared.{Spot.Spot, Spot.the-variants.At}
+use Rattle.rules.specs.Calls.{Told as Handed, noCursor, geoOf, behind, called, fetchItem, fetchPlain}
+use Rattle.items.specs.declared.{Spot.the-variants.At}
 use Rattle.items.specs.Code.{told}
-use Rattle.cache.specs.declared.{Cache.Cache}
 use Rattle.cache.specs.Code.{pointers, index}
 use Rattle.cache.proofs.Pointers.{Sized, seek-hit, seek-on, seek-end, none, find-hit}
 use Rattle.fetch.specs.declared.{Mem.Mem}

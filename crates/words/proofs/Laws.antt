@@ -6,7 +6,7 @@ use native.Mathlib.Omega.{arith}
 use native.Mathlib.Numerals.{add-one}
 use native.Mathlib.Nat.{eq-or-lt-of-le, pow-suc}
 use mathlib.Core.Bool.{true, false}
-use mathlib.Core.List.{List, [], _∷_, _++_}
+use mathlib.Core.List.{List, [], _∷_}
 use lib.ListN.{length, getD, set, take, drop, replicate, length-drop, length-replicate, take-append-drop, drop-of-length-le}
 use lib.Seq.{drop-cons, drop-drop, length-take-le}
 use lib.Bits.{bitAnd}
@@ -78,8 +78,8 @@ ones-all (b ∷ bs) h =
 part : (m a : ℕ) (s : List ℕ) → a + m ≤ length s → length (take m (drop a s)) ≡ m
 part m a s h = length-take-le m (drop a s) (omega (arith, length-drop a s))
 
-pub zeros-part : (m a : ℕ) (s : List ℕ) → ((i : ℕ) → getD s i 0 < 256) → a + m ≤ length s → zeros (take m (drop a s)) + ones (ofLe (take m (drop a s))) ≡ 8 * m
-zeros-part m a s h k = ones-all (take m (drop a s)) (Bytes-take m (drop a s) (Bytes-drop a s (bytes-all s h))) ∙ ap (λ (n : ℕ). 8 * n) (part m a s k)
+pub zeros-part : (m a : ℕ) (s : List ℕ) → ((i : ℕ) → getD s i 0 < 256) → a + m ≤ length s → (n : ℕ) → n ≡ ofLe (take m (drop a s)) → zeros (take m (drop a s)) + ones n ≡ 8 * m
+zeros-part m a s h k n e = rw e (ones-all (take m (drop a s)) (Bytes-take m (drop a s) (Bytes-drop a s (bytes-all s h))) ∙ ap (λ (n : ℕ). 8 * n) (part m a s k))
 
 pub zeros-cat : (m a : ℕ) (s : List ℕ) → zeros (drop a s) ≡ zeros (take m (drop a s)) + zeros (drop (a + m) s)
 zeros-cat m a s = rw (← drop-drop m a s) (go m (drop a s))

@@ -8,7 +8,7 @@ use mathlib.Core.Bool.{Bool, true, false}
 use lib.Dec.{ltb}
 use borrow.Author.Tests.{ltb-true, ltb-false}
 use mathlib.Core.Logic.{_⊎_, ⊎-elim, inl, inr}
-use mathlib.Core.List.{List, [], _∷_, _++_, append-nil}
+use mathlib.Core.List.{List, [], _∷_, _++_}
 use lib.ListN.{length, getD, set, take, drop, replicate, length-append, length-replicate, length-drop, length-take, take-append-drop, drop-of-length-le}
 use lib.Seq.{drop-cons, drop-drop, take-append-le, drop-append-le, length-take-le, take-suc, take-take, set-at, append-snoc, getD-drop}
 use Rattle.laws.specs.Splice.{take-over, window-replicate, drop-take}

@@ -1,5 +1,4 @@
 -- `capi::fetch_still` meets its contract: without a cache the plain fetch answers.
-use Rattle.capi.specs.Code.{StillOk}
 use Rattle.capi.proofs.Still.{still-plain}
 use borrow.Author.Needs.{needs}
 use Rattle.capi.proofs.fetch_still.Statement.{statement}
