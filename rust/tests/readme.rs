@@ -32,3 +32,8 @@ fn the_rust_example_is_the_doc_test() {
         .collect();
     assert!(docs.join("\n").contains(&format!("```\n{}\n```", block("use werandumb::{Error, MapStorage};"))));
 }
+
+#[test]
+fn the_first_use_is_a_part_of_the_program() {
+    assert!(file("crates/first/src/main.rt").contains(&block("fn main() {")));
+}
