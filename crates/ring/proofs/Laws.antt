@@ -1,12 +1,12 @@
 -- Pages and the ring, in the form that the code's loops ask.
-use mathlib.Core.Path.{_≡_, ap, _∙_}
+use mathlib.Core.Path.{_≡_, refl, ap, sym, _∙_}
 use Prim.Native.Nat.{ℕ, suc, _+_, _-_, _*_, _≤_, _<_}
 use native.Mathlib.Omega.{arith}
 use native.Mathlib.Nat.{zero-add}
 use mathlib.Core.Bool.{false, true, Bool}
 use mathlib.Core.List.{List, [], _∷_, reverse, reverse-append}
 use lib.ListN.{take, drop}
-use Rattle.rules.specs.declared.{Geo.Geo, PageState.PageState}
+use Rattle.rules.specs.declared.{Geo.Geo, PageState.PageState, PageState.the-variants.Corrupted}
 use Rattle.rules.specs.Pages.{same, stateOf, marked, state, firstWith, upFrom, scanOf, areaLen, dataAt, endAt}
 use Rattle.laws.specs.Lists.{upFrom-snoc}
 use Rattle.items.specs.Code.{scanIn, spotIn}
@@ -55,6 +55,18 @@ state-code G img p a m₁ m₂ r ha h₁ h₂ hr =
     let k₁ = rw q₁ at h₁ in
     let k₂ = rw q₂ at h₂ in
     rw (← ha, ← k₁, ← k₂) hr
+
+-- a page whose end is not marked is not corrupted
+pub open-end : (G : Geo) (img : List ℕ) (p a : ℕ) (m : Bool) → a ≡ p * G .page
+    → m ≡ marked G (take (a + (G .page - G .word) + G .word - (a + (G .page - G .word))) (drop (a + (G .page - G .word)) img)) → m ≡ false
+    → false ≡ same Corrupted (state G img p)
+open-end G img p a m ha h e =
+    let s = marked G (take (a + G .word - a) (drop a img)) in
+    go s ∙ ap (same Corrupted) (ap (stateOf s) (sym e) ∙ state-code G img p a s m (stateOf s m) ha refl h refl)
+  where
+    go : (b : Bool) → false ≡ same Corrupted (stateOf b false)
+    go true = refl
+    go false = refl
 
 -- what is found before e is found before n
 pub spot-mono : (e n : ℕ) (r : Spot) → e ≤ n → spotIn e r → spotIn n r

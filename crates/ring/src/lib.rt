@@ -2,6 +2,7 @@
 ghost use mathlib.Core.Path.{_≡_};
 ghost use Prim.Native.Nat.{_+_, _-_, _*_, _^_, _≤_, _<_};
 ghost use lib.ListN.{length, replicate};
+ghost use Rattle.rules.specs.declared.{PageState.the-variants.Corrupted};
 ghost use Rattle.rules.specs.Held.{Held};
 ghost use Rattle.rules.specs.Bytes.{program, erase};
 ghost use Rattle.rules.specs.Pages.{stateOf, stateNo, same, dataAt, endAt, startAt, zeroWord, marked, state, scanOf, itemsOf, hasFreeSpot, next, prev, firstPage, lastPage, anyCorrupted};
@@ -132,12 +133,37 @@ pub fn last(img: &[u8], g: Geo, want: PageState) -> usize
     n
 }
 
+// Is page p corrupted? Its start is read only where its end is marked.
+fn end_only(img: &[u8], g: Geo, p: usize) -> bool
+    requires { ⌜ Held g (length (now img)) × (p < g .pages) ⌝ }
+    ensures { λ r. ⌜ r ≡ same Corrupted (state g (now (img .entry)) p) ⌝ }
+{
+    let w = g.word;
+    let a = base(g, p, img.len());
+    let e = a + (g.page - w);
+    if marked(&img[e..e + w], g) {
+        return is(
+            state_of(marked(&img[a..a + w], g), true),
+            PageState::Corrupted,
+        );
+    }
+    false
+}
+
 // Is a page corrupted?
 pub fn any_corrupted(img: &[u8], g: Geo) -> bool
     requires { ⌜ Held g (length (now img)) ⌝ }
     ensures { λ r. ⌜ r ≡ anyCorrupted g (now (img .entry)) ⌝ }
 {
-    first(img, g, PageState::Corrupted) < g.pages
+    let n = g.pages;
+    let mut p: usize = 0;
+    while p < n {
+        if end_only(img, g, p) {
+            return true;
+        }
+        p += 1;
+    }
+    false
 }
 
 // The next page around the ring.
