@@ -16,7 +16,7 @@ use Rattle.rules.specs.Runs.{out, on}
 use Rattle.rules.specs.Fetch.{Found, corrupt, missing, found, answerOf, noteFound, newest, hit, fetchIn, runFetch, plainFetch}
 use Rattle.rules.specs.Pages.{anyCorrupted}
 use Rattle.rules.specs.Store.{looked, autoRepair, fetch}
-use Rattle.rules.specs.Calls.{Told as Handed, noCursor, geoOf, behind, called, fetchItem, fetchPlain}
+use Rattle.rules.specs.Calls.{Told as Handed, Lent, noCursor, geoOf, behind, called, fetchItem, fetchPlain}
 use Rattle.items.specs.declared.{Spot.the-variants.At}
 use Rattle.items.specs.Code.{told}
 use Rattle.cache.specs.Code.{pointers, index}

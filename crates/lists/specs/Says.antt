@@ -6,7 +6,7 @@ use lib.ListN.{length}
 use lib.Dec.{eqb}
 use Rattle.rules.specs.declared.{Cursor.Cursor, Answer.Answer}
 use Rattle.rules.specs.Bytes.{both}
-use Rattle.rules.specs.Cache.{Pointer, Cache as Entries}
+use Rattle.rules.specs.Cache.{Cache as Entries}
 use Rattle.rules.specs.Answers.{paper, number, isNo}
 use Rattle.rules.specs.Fetch.{view}
 use Rattle.rules.specs.Calls.{Lent, Told, called, fetchItem, fetchPlain}
