@@ -8,6 +8,8 @@ use shell::text;
 use shell::trouble::Part;
 use shell::trouble::Trouble;
 use tool::hex::Bytes;
+use tool::number;
+use tool::word;
 
 // The changed image in the place of the old one, where the map did what it was asked.
 fn keep(told: Told, path: &[u8], img: &[u8]) -> Trouble {
@@ -55,13 +57,13 @@ pub fn store(
 ) -> Trouble {
     let mut value = [0u8; 65536];
     if check::same(typed, b"-") {
-        return store_value(img, page, key, &value[..0], path, out);
+        return store_value(img, page, key, b"", path, out);
     }
     let b = tool::hex::read(typed, &mut value);
     match b {
         Bytes::Bad => Trouble::Bad(Part::Hex),
         Bytes::Long => Trouble::Refused(6),
-        Bytes::Count(n) => store_value(img, page, key, &value[..n], path, out),
+        Bytes::Count(n) => store_value(img, page, key, word::head(&value, n), path, out),
     }
 }
 
@@ -99,18 +101,9 @@ pub fn erase(img: &mut [u8], page: usize, path: &[u8], out: &mut [u8]) -> Troubl
     t
 }
 
-// All bytes blank.
-pub fn wipe(img: &mut [u8]) {
-    let mut i: usize = 0;
-    while i < img.len() {
-        img[i] = 255;
-        i += 1;
-    }
-}
-
 // A new image of blank pages, where there is no file yet.
 pub fn blank(room: &mut [u8], page: u32, pages: u32, path: &[u8], out: &mut [u8]) -> Trouble {
-    let n = page as usize * pages as usize;
+    let n = number::product(page, pages);
     let no = answer::number(map::try_new(page as usize, n, 0));
     if no != 0 {
         return Trouble::Refused(no);
@@ -118,8 +111,9 @@ pub fn blank(room: &mut [u8], page: u32, pages: u32, path: &[u8], out: &mut [u8]
     if room.len() < n {
         return Trouble::Large;
     }
-    wipe(&mut room[..n]);
-    let t = file::make(path, &room[..n], Trouble::Exists);
+    let img = word::head_mut(room, n);
+    map::erase_all(img, page as usize, listing::no_cache(), 0);
+    let t = file::make(path, img, Trouble::Exists);
     if let Trouble::Nothing = t {
         text::say_number(out, text::MADE, pages as usize);
         sheet::put_end(out);

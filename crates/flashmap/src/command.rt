@@ -128,7 +128,7 @@ fn on_file(v: Verb, room: &mut [u8], page: u32, line: &[u8], out: &mut [u8]) -> 
     let got = file::load(word::word(line, 0), room);
     match got {
         Loaded::Not(t) => t,
-        Loaded::Bytes(n) => on_image(v, &mut room[..n], page as usize, line, out),
+        Loaded::Bytes(n) => on_image(v, word::head_mut(room, n), page as usize, line, out),
     }
 }
 

@@ -1,4 +1,5 @@
 // The items of an image: the newest of a key, all versions in ring order, the newest of each key.
+use crate::pages;
 use cache::Cache;
 use rules::Answer;
 use rules::Cursor;
@@ -68,9 +69,7 @@ fn put_item(out: &mut [u8], key: u32, value: &[u8]) {
 
 // A version: the page and the place of its value, and its item.
 fn put_version(out: &mut [u8], page: usize, place: usize, key: u32, value: &[u8]) {
-    if page != 0 {
-        sheet::put_wide(out, place / page, 4);
-    }
+    sheet::put_wide(out, pages::page_of(place, page), 4);
     sheet::put_wide(out, place, 9);
     sheet::put(out, b"  ");
     put_item(out, key, value);
@@ -124,6 +123,13 @@ fn keys_of(img: &[u8], page: usize, cursor: Cursor, keys: &mut [u32]) -> usize {
     n
 }
 
+// An item, where it is marked.
+fn put_if(out: &mut [u8], mark: u8, key: u32, value: &[u8]) {
+    if mark == 1 {
+        put_item(out, key, value);
+    }
+}
+
 // The items of a walk from a cursor on that are marked.
 fn put_marked(img: &[u8], page: usize, cursor: Cursor, marks: &[u8], out: &mut [u8]) {
     let mut c = cursor;
@@ -136,9 +142,7 @@ fn put_marked(img: &[u8], page: usize, cursor: Cursor, marks: &[u8], out: &mut [
         };
         let next = s.cursor;
         c = next;
-        if marks[k] == 1 {
-            put_item(out, key, map::view(img, place, len));
-        }
+        put_if(out, marks[k], key, map::view(img, place, len));
         k += 1;
     }
 }
@@ -150,8 +154,8 @@ fn put_newest(img: &[u8], page: usize, cursor: Cursor, out: &mut [u8]) {
     let mut table = [0u32; 131071];
     let mut marks = [0u8; 174763];
     let n = keys_of(img, page, cursor, &mut keys);
-    tool::last::mark(&keys[..n], &mut table, &mut next, &mut marks);
-    put_marked(img, page, cursor, &marks[..n], out);
+    tool::last::mark_head(&keys, n, &mut table, &mut next, &mut marks);
+    put_marked(img, page, cursor, tool::word::head(&marks, n), out);
 }
 
 // The newest value of each key: what a walk lists last for it.

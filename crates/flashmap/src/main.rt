@@ -6,8 +6,6 @@ mod listing;
 mod pages;
 mod script;
 
-ghost use lib.ListN.{length};
-ghost use Rattle.shell.specs.Loads.{fits};
 use shell::file;
 use shell::file::Loaded;
 use shell::sheet;
@@ -93,7 +91,7 @@ fn run_script(line: &[u8], room: &mut [u8], out: &mut [u8]) {
     let got = file::load(word::word(line, 1), &mut script);
     match got {
         Loaded::Not(t) => complain(out, t, line, word::word(line, 1)),
-        Loaded::Bytes(n) => run_text(&script[..n], room, out),
+        Loaded::Bytes(n) => run_text(word::head(&script, n), room, out),
     }
 }
 
@@ -108,14 +106,29 @@ fn run(line: &[u8], room: &mut [u8], out: &mut [u8]) {
     run_one(line, room, out);
 }
 
-fn main() {
+// A command or a script, in room of its own for an image.
+fn run_in(line: &[u8], room: &mut [u8; 2097152], out: &mut [u8]) {
+    run(line, room, out);
+}
+
+// The same with this room.
+fn run_in_room(line: &[u8], out: &mut [u8]) {
     let mut room = [0u8; 2097152];
-    let mut line = [0u8; 139264];
-    let mut out = io::large_buffer();
-    sheet::open(&mut out, 1);
-    let got = arguments(&mut line);
+    run_in(line, &mut room, out);
+}
+
+// What the arguments ask.
+fn start(line: &mut [u8], out: &mut [u8]) {
+    sheet::open(out, 1);
+    let got = arguments(line);
     match got {
-        Loaded::Not(t) => complain(&mut out, t, &line, &line),
-        Loaded::Bytes(n) => run(&line[..n], &mut room, &mut out),
+        Loaded::Not(t) => complain(out, t, line, line),
+        Loaded::Bytes(n) => run_in_room(word::head(line, n), out),
     }
+}
+
+fn main() {
+    let mut line = [0u8; 139264];
+    let mut out = [0u8; 65536];
+    start(&mut line, &mut out);
 }

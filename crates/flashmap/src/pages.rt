@@ -88,17 +88,22 @@ fn put_page(out: &mut [u8], q: usize, t: Tally) {
     put_counts(out, t);
 }
 
+// The page of a place; the number of pages, at an image's end.
+pub fn page_of(place: usize, page: usize) -> usize {
+    if page == 0 {
+        return 0;
+    }
+    place / page
+}
+
 // A line for each page: its state, a bar of its bytes, and their counts.
 pub fn draw(img: &[u8], page: usize, out: &mut [u8]) -> Trouble {
     let no = answer::number(map::try_new(page, img.len(), 0));
     if no != 0 {
         return Trouble::Refused(no);
     }
-    if page == 0 {
-        return Trouble::Refused(3);
-    }
     text::say_line(out, text::PAGES_HEAD);
-    let n = img.len() / page;
+    let n = page_of(img.len(), page);
     let mut q: usize = 0;
     while q < n {
         put_page(out, q, inspect::tally_page(img, page, q));

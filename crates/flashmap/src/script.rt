@@ -30,7 +30,7 @@ fn play_line(typed: &[u8], room: &mut [u8], out: &mut [u8]) -> bool {
     if line[0] == b'#' {
         return true;
     }
-    play(typed, &line[..n], room, out)
+    play(typed, word::head(&line, n), room, out)
 }
 
 // All lines: how many commands failed.

@@ -1,9 +1,7 @@
 // Whole files: read, made anew, put in the place of another.
-ghost use lib.ListN.{length};
-ghost use Rattle.io.specs.Counts.{Counts};
-ghost use Rattle.shell.specs.Loads.{fits};
 use crate::trouble::Deed;
 use crate::trouble::Trouble;
+use tool::word;
 
 // A file at the start of a buffer: its length; or why it is not there.
 pub enum Loaded {
@@ -12,9 +10,7 @@ pub enum Loaded {
 }
 
 // The whole of an open file, at the start of room.
-fn read_all(fd: i32, room: &mut [u8]) -> Loaded
-    ensures { λ r. ⌜ fits (length (now (room .entry))) r ⌝ }
-{
+fn read_all(fd: i32, room: &mut [u8]) -> Loaded {
     let n = io::read_full(fd, room);
     let mut one = [0u8; 1];
     let more = libc::read(fd, &mut one);
@@ -28,9 +24,7 @@ fn read_all(fd: i32, room: &mut [u8]) -> Loaded
 }
 
 // The whole file at path, at the start of room.
-pub fn load(path: &[u8], room: &mut [u8]) -> Loaded
-    ensures { λ r. ⌜ fits (length (now (room .entry))) r ⌝ }
-{
+pub fn load(path: &[u8], room: &mut [u8]) -> Loaded {
     let fd = os::open_read(path);
     if fd < 0 {
         return Loaded::Not(Trouble::System(Deed::Open, os::errno()));
@@ -91,9 +85,7 @@ fn swap(path: &[u8], other: &[u8], image: &[u8]) -> Trouble {
 }
 
 // The path with .new after it, at the start of room: its length, 0 where it has no room.
-fn new_name(path: &[u8], room: &mut [u8]) -> usize
-    ensures { λ r. ⌜ Counts r (now (room .exit)) ⌝ }
-{
+fn new_name(path: &[u8], room: &mut [u8]) -> usize {
     let n = path.len();
     if room.len() < 4 {
         return 0;
@@ -114,5 +106,5 @@ pub fn replace(path: &[u8], image: &[u8]) -> Trouble {
     if n == 0 {
         return Trouble::System(Deed::Make, libc::ENAMETOOLONG);
     }
-    swap(path, &room[..n], image)
+    swap(path, word::head(&room, n), image)
 }

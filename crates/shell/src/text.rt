@@ -129,7 +129,7 @@ pub const LOST: usize = 65;
 // The help, up to the last line.
 pub const HELP: usize = 66;
 
-pub const LAST: usize = 86;
+pub const LAST: usize = 87;
 
 // Line k of a text; nothing where there is none.
 fn put_line(out: &mut [u8], text: &[u8], k: usize) {
@@ -211,8 +211,8 @@ all pages blank
 blank pages made:
 key
 ; pages erased:
-six pages of 64 bytes; packs 1 to 3 after five flights each; pack 2 is retired
-the charge totals in mAh, four bytes, the lowest first:
+six pages of 128 bytes; packs 1 to 3 flew 13 times; pack 2 is retired
+their charge totals in mAh, four bytes, the lowest first:
 flashmap:
 error:
  commands of the script failed; its output says which and why
@@ -232,11 +232,12 @@ flashmap: shows and changes the image of a flash key-value map
   flashmap demo                       fills a small image in memory, and draws it
   flashmap help                       shows this
 
-IMAGE is a file of at most 2 MiB, PAGE the size of its pages in bytes. Numbers are
-decimal, or hexadecimal after 0x. HEX is two digits a byte; - is the empty value.
-A changed image is written to IMAGE.new, which then takes the name IMAGE. What goes
-wrong is told on standard error, with exit status 1, and leaves the image as it was.
-A line of a script is a command without the word flashmap, or a comment after #.",
+IMAGE is a file of at most 2 MiB, PAGE the size of its pages in bytes. Numbers
+are decimal, or hexadecimal after 0x. HEX is two digits a byte; - or \"\" is the
+empty value. A changed image is written to IMAGE.new, which then takes the name
+IMAGE. What goes wrong is told on standard error, with exit status 1, and
+leaves the image as it was. A line of a script is a command without the word
+flashmap, or a comment that begins with #.",
         k,
     );
 }

@@ -11,7 +11,6 @@ use lib.ListN.{length, getD, drop, drop-of-length-le}
 use lib.Seq.{drop-cons}
 use lib.Dec.{ltb}
 use Rattle.tool.specs.Numbers.{digitOf, allDigits, spell, settled}
-use Rattle.tool.specs.declared.number.Number.{Number}
 use Rattle.tool.specs.declared.number.Number.the-variants.{Bad, Is}
 
 -- more digits spell no smaller number

@@ -1,7 +1,7 @@
 -- Hexadecimal: a byte's two digits, and the bytes that pairs of digits spell.
 use mathlib.Core.Bool.{Bool, true, false, cond}
 use mathlib.Core.List.{List, [], _∷_}
-use Prim.Native.Nat.{ℕ, _+_, _*_, _/_, _%_, _≤_}
+use Prim.Native.Nat.{ℕ, _+_, _*_, _/_, _%_}
 use lib.ListN.{length}
 use lib.Dec.{ltb, eqb}
 use Rattle.tool.specs.Numbers.{digitOf}
@@ -34,9 +34,3 @@ hexAnswer s room =
     cond (eqb (length s % 2) 0)
     (cond (ltb room (length s / 2)) Long (cond (allPairs s) (Count (length s / 2)) Bad))
     Bad
-
--- so many bytes have room
-abbrev pub within : ℕ → Bytes → Type 0
-within room Bad = Unit {0}
-within room Long = Unit {0}
-within room (Count n) = n ≤ room

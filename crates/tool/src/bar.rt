@@ -1,6 +1,6 @@
 // A bar of 32 cells: bytes of four kinds, laid one kind after the other.
 ghost use mathlib.Core.Path.{_≡_};
-ghost use Prim.Native.Nat.{_+_, min, max};
+ghost use Prim.Native.Nat.{min, max};
 ghost use Rattle.tool.specs.Bars.{touches, cellOf};
 
 // The smaller of two numbers.

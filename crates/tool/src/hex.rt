@@ -2,7 +2,7 @@
 ghost use mathlib.Core.Path.{_≡_};
 ghost use Prim.Native.Nat.{ℕ, _<_};
 ghost use lib.ListN.{length, take};
-ghost use Rattle.tool.specs.Hex.{glyph, pair, spelled, hexAnswer, within};
+ghost use Rattle.tool.specs.Hex.{glyph, pair, spelled, hexAnswer};
 use crate::number::digit;
 
 // What typed bytes are: no pairs of digits, more than there is room for, or so many.
@@ -33,7 +33,6 @@ pub fn show(b: u8) -> [u8; 2]
 // The bytes that pairs of digits spell, at the start of out.
 pub fn read(s: &[u8], out: &mut [u8]) -> Bytes
     ensures { λ r. ⌜ r ≡ hexAnswer (now (s .entry)) (length (now (out .entry))) ⌝ }
-    ensures { λ r. ⌜ within (length (now (out .entry))) r ⌝ }
     ensures { λ r. ⌜ ((n : ℕ) → r ≡ Bytes.Count n → take n (now (out .exit)) ≡ spelled (now (s .entry))) ⌝ }
 {
     let n = s.len() / 2;

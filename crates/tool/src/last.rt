@@ -2,7 +2,7 @@
 ghost use mathlib.Core.Path.{_≡_};
 ghost use mathlib.Core.Bool.{true};
 ghost use Prim.Native.Nat.{ℕ, _+_, _<_};
-ghost use lib.ListN.{length, getD, drop, replicate};
+ghost use lib.ListN.{length, getD, take, drop, replicate};
 ghost use Rattle.tool.specs.Last.{member, markOf, lastMark, Chain, Chained, Marked, Room};
 
 // All slots empty: their chains end at once, at n.
@@ -53,7 +53,7 @@ fn mark_one(keys: &[u32], table: &mut [u32], next: &mut [u32], marks: &mut [u8],
 
 // Marks each key with 1 where it stands at no later index, with 0 elsewhere; table and next are lent for the chains. Answers whether
 // there was room.
-pub fn mark(keys: &[u32], table: &mut [u32], next: &mut [u32], marks: &mut [u8]) -> bool
+fn mark(keys: &[u32], table: &mut [u32], next: &mut [u32], marks: &mut [u8]) -> bool
     ensures { λ r. ⌜ (r ≡ true → (k : ℕ) → k < length (now (keys .entry)) → getD (now (marks .exit)) k 0 ≡ lastMark (now (keys .entry)) k) ⌝ }
 {
     let n = keys.len();
@@ -76,4 +76,20 @@ pub fn mark(keys: &[u32], table: &mut [u32], next: &mut [u32], marks: &mut [u8])
         mark_one(keys, table, next, marks, i);
     }
     true
+}
+
+// The same for the first n keys.
+pub fn mark_head(
+    keys: &[u32],
+    n: usize,
+    table: &mut [u32],
+    next: &mut [u32],
+    marks: &mut [u8],
+) -> bool
+    ensures { λ r. ⌜ (r ≡ true → (k : ℕ) → k < n → getD (now (marks .exit)) k 0 ≡ lastMark (take n (now (keys .entry))) k) ⌝ }
+{
+    if keys.len() < n {
+        return false;
+    }
+    mark(&keys[..n], table, next, marks)
 }

@@ -1,6 +1,6 @@
 // Numbers as they are typed: decimal, or hexadecimal after 0x.
 ghost use mathlib.Core.Path.{_≡_};
-ghost use Prim.Native.Nat.{_<_, _≤_};
+ghost use Prim.Native.Nat.{_*_, _<_, _≤_};
 ghost use Rattle.tool.specs.Numbers.{digitOf, numberIn, numberOf};
 
 // A number that fits 32 bits, or none.
@@ -72,4 +72,11 @@ pub fn read(s: &[u8]) -> Number
         return read_in(s, 10);
     }
     read_in(&s[2..], 16)
+}
+
+// The product of two numbers.
+pub fn product(a: u32, b: u32) -> usize
+    ensures { λ r. ⌜ r ≡ a * b ⌝ }
+{
+    a as usize * b as usize
 }

@@ -3,9 +3,25 @@ ghost use mathlib.Core.Path.{_≡_};
 ghost use mathlib.Core.List.{_++_};
 ghost use Prim.Native.Nat.{_+_, _≤_, _<_};
 ghost use lib.ListN.{length, take};
-ghost use lib.Dec.{ltb};
-ghost use mathlib.Core.Bool.{cond};
 ghost use Rattle.tool.specs.Words.{wordOf, countOf, adds, parted};
+
+// The first n bytes; all of them where there are fewer.
+pub fn head(s: &[u8], n: usize) -> &[u8]
+    ensures { λ r. ⌜ now r ≡ take n (now (s .entry)) ⌝ }
+{
+    if n <= s.len() {
+        return &s[..n];
+    }
+    s
+}
+
+// The first n bytes, to be changed; all of them where there are fewer.
+pub fn head_mut(s: &mut [u8], n: usize) -> &mut [u8] {
+    if n <= s.len() {
+        return &mut s[..n];
+    }
+    s
+}
 
 // Word k, from 0; empty where there is none.
 pub fn word(line: &[u8], k: usize) -> &[u8]
