@@ -124,12 +124,14 @@ pub const ERROR: usize = 63;
 
 pub const FAILED: usize = 64;
 
-pub const LOST: usize = 65;
+pub const WHICH: usize = 65;
+
+pub const LOST: usize = 66;
 
 // The help, up to the last line.
-pub const HELP: usize = 66;
+pub const HELP: usize = 67;
 
-pub const LAST: usize = 87;
+pub const LAST: usize = 88;
 
 // Line k of a text; nothing where there is none.
 fn put_line(out: &mut [u8], text: &[u8], k: usize) {
@@ -215,7 +217,8 @@ six pages of 128 bytes; packs 1 to 3 flew 13 times; pack 2 is retired
 their charge totals in mAh, four bytes, the lowest first:
 flashmap:
 error:
- commands of the script failed; its output says which and why
+failed commands of the script:
+; its output says which and why
 flashmap: standard output can't be written; give it another place
 flashmap: shows and changes the image of a flash key-value map
 
