@@ -173,8 +173,8 @@ PAGE is no multiple of 4, or over 32768, or there are over 256 pages; give anoth
 the cache is too large; give it at most 32 entries (5, CacheSize)
 the value is too long; give at most PAGE - 20 bytes (6, ItemTooBig)
 the map is full; nothing was changed; remove keys or use a larger image (7, FullStorage)
-it is damaged past repair; nothing was changed; see check, and erase it to start anew (8, Corrupted)
-it is damaged; see check, and store or remove a key to have it repaired (8, Corrupted)
+it is damaged past repair; nothing was changed; see check for the place, and erase to start anew (8, Corrupted)
+it is damaged; see check for the place; a store or a removal repairs what it can (8, Corrupted)
 it is not sound; keep a copy: a store or a removal repairs what it can, erase starts anew
 it exists, and blank writes over no file; give another path, or remove the file first
 a file of its name with .new after it exists, from a run that goes on or was cut off; if none goes on, remove it
