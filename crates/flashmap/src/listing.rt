@@ -123,31 +123,54 @@ fn keys_of(img: &[u8], page: usize, cursor: Cursor, keys: &mut [u32]) -> usize {
     n
 }
 
-// An item, where it is marked.
-fn put_if(out: &mut [u8], mark: u8, key: u32, value: &[u8]) {
-    if mark == 1 {
-        put_item(out, key, value);
+// The newest value of a key whose last item in the walk is this one. On a sound image that item is it; else the map is asked.
+fn put_key(
+    img: &[u8],
+    page: usize,
+    sound: bool,
+    key: u32,
+    place: usize,
+    len: usize,
+    out: &mut [u8],
+) {
+    if sound {
+        put_item(out, key, map::view(img, place, len));
+        return;
     }
+    let a = map::fetch_plain(img, page, key);
+    let Answer::Value(p, n) = a else {
+        return;
+    };
+    put_item(out, key, map::view(img, p, n));
 }
 
-// The items of a walk from a cursor on that are marked.
-fn put_marked(img: &[u8], page: usize, cursor: Cursor, marks: &[u8], out: &mut [u8]) {
+// The same, where the item is marked as the last of its key.
+fn put_marked(img: &[u8], page: usize, sound: bool, mark: u8, a: Answer, out: &mut [u8]) {
+    if mark != 1 {
+        return;
+    }
+    let Answer::Item(key, place, len) = a else {
+        return;
+    };
+    put_key(img, page, sound, key, place, len, out);
+}
+
+// The newest value of each key in a walk from a cursor on; the marks say which items are the last of their keys.
+fn put_last(img: &[u8], page: usize, cursor: Cursor, marks: &[u8], out: &mut [u8]) {
+    let sound = pages::is_sound(img, page);
     let mut c = cursor;
     let mut k: usize = 0;
     while k < marks.len() {
         let s = map::next_item(img, page, c);
         let a = s.answer;
-        let Answer::Item(key, place, len) = a else {
-            return;
-        };
         let next = s.cursor;
         c = next;
-        put_if(out, marks[k], key, map::view(img, place, len));
+        put_marked(img, page, sound, marks[k], a, out);
         k += 1;
     }
 }
 
-// The last item of each key from a cursor on. An item has at least 12 bytes, so each key of 2 MiB has room.
+// The newest value of each key from a cursor on. An item has at least 12 bytes, so each key of 2 MiB has room.
 fn put_newest(img: &[u8], page: usize, cursor: Cursor, out: &mut [u8]) {
     let mut keys = [0u32; 174763];
     let mut next = [0u32; 174763];
@@ -155,10 +178,10 @@ fn put_newest(img: &[u8], page: usize, cursor: Cursor, out: &mut [u8]) {
     let mut marks = [0u8; 174763];
     let n = keys_of(img, page, cursor, &mut keys);
     tool::last::mark_head(&keys, n, &mut table, &mut next, &mut marks);
-    put_marked(img, page, cursor, tool::word::head(&marks, n), out);
+    put_last(img, page, cursor, tool::word::head(&marks, n), out);
 }
 
-// The newest value of each key: what a walk lists last for it.
+// The newest value of each key, in the order in which the walk lists them.
 pub fn list(img: &mut [u8], page: usize, out: &mut [u8]) -> Trouble {
     let s = begin(img, page);
     match s {

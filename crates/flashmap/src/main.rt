@@ -79,8 +79,10 @@ fn run_text(script: &[u8], room: &mut [u8], out: &mut [u8]) {
     finish(out);
     if 0 < failed {
         sheet::open(out, 2);
-        text::say_number(out, text::NAME, failed);
-        text::say_line(out, text::FAILED);
+        text::say(out, text::NAME);
+        sheet::put(out, b" ");
+        text::say_number(out, text::FAILED, failed);
+        text::say_line(out, text::WHICH);
         sheet::flush(out);
     }
 }

@@ -21,6 +21,12 @@ fn say_byte(out: &mut [u8], q: usize, k: usize, place: usize) -> Trouble {
     Trouble::Unsound
 }
 
+// Is an image sound?
+pub fn is_sound(img: &[u8], page: usize) -> bool {
+    let f = inspect::first_fault(img, page);
+    if let Fault::Nothing = f { true } else { false }
+}
+
 // sound, or the first reason why not.
 pub fn check(img: &[u8], page: usize, out: &mut [u8]) -> Trouble {
     let f = inspect::first_fault(img, page);

@@ -1,5 +1,6 @@
 // Output through a sheet, a lent buffer: what waits on it is written when it is full, and at the end. Its first three bytes are its
-// head: where it goes (1 standard output, 2 standard error, 0 nowhere), and how many bytes wait after the head, the low byte first.
+// head: where it goes (1 standard output, 2 standard error, 0 nowhere), and how many bytes wait after the head, the low byte first;
+// so at most 65,535 wait.
 ghost use Prim.Native.Nat.{_≤_};
 ghost use lib.ListN.{length};
 
@@ -78,10 +79,13 @@ pub fn flush(out: &mut [u8]) {
     set_head(out, 0, 3);
 }
 
-// Text at index e of the sheet; false where there is no room.
+// Text after what waits; false where there is no room.
 fn add(out: &mut [u8], text: &[u8]) -> bool {
     let e = end(out);
     if out.len() - e < text.len() {
+        return false;
+    }
+    if 65538 < e + text.len() {
         return false;
     }
     let n = bytes::copy(text, &mut out[e..]);

@@ -124,12 +124,14 @@ pub const ERROR: usize = 63;
 
 pub const FAILED: usize = 64;
 
-pub const LOST: usize = 65;
+pub const WHICH: usize = 65;
+
+pub const LOST: usize = 66;
 
 // The help, up to the last line.
-pub const HELP: usize = 66;
+pub const HELP: usize = 67;
 
-pub const LAST: usize = 87;
+pub const LAST: usize = 88;
 
 // Line k of a text; nothing where there is none.
 fn put_line(out: &mut [u8], text: &[u8], k: usize) {
@@ -171,8 +173,8 @@ PAGE is no multiple of 4, or over 32768, or there are over 256 pages; give anoth
 the cache is too large; give it at most 32 entries (5, CacheSize)
 the value is too long; give at most PAGE - 20 bytes (6, ItemTooBig)
 the map is full; nothing was changed; remove keys or use a larger image (7, FullStorage)
-it is damaged past repair; nothing was changed; see check, and erase it to start anew (8, Corrupted)
-it is damaged; see check, and store or remove a key to have it repaired (8, Corrupted)
+it is damaged past repair; nothing was changed; see check for the place, and erase to start anew (8, Corrupted)
+it is damaged; see check for the place; a store or a removal repairs what it can (8, Corrupted)
 it is not sound; keep a copy: a store or a removal repairs what it can, erase starts anew
 it exists, and blank writes over no file; give another path, or remove the file first
 a file of its name with .new after it exists, from a run that goes on or was cut off; if none goes on, remove it
@@ -215,7 +217,8 @@ six pages of 128 bytes; packs 1 to 3 flew 13 times; pack 2 is retired
 their charge totals in mAh, four bytes, the lowest first:
 flashmap:
 error:
- commands of the script failed; its output says which and why
+failed commands of the script:
+; its output says which and why
 flashmap: standard output can't be written; give it another place
 flashmap: shows and changes the image of a flash key-value map
 

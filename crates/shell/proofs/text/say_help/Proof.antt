@@ -7,10 +7,10 @@ use Rattle.shell.proofs.text.say_help.Statement.{statement}
 use Rattle.shell.proofs.text.say_help.Tie as tie
 
 abbrev Inv-loop : tie.InvT-loop
-Inv-loop out₀ k₀ out k = (length out ≡ length out₀) × (k ≤ 87)
+Inv-loop out₀ k₀ out k = (length out ≡ length out₀) × (k ≤ 88)
 
 abbrev μ-loop : tie.MeasureT-loop
-μ-loop out₀ k₀ out k = 87 - k
+μ-loop out₀ k₀ out k = 88 - k
 
 pub say-help-spec : {M : Type 1} → statement M
 say-help-spec =
