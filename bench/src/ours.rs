@@ -49,6 +49,19 @@ unsafe extern "C" {
     ) -> u32;
 }
 
+/// A call with a cache: what it takes after the cache size, then the out words. Counts the erased pages, gives the number.
+macro_rules! call {
+    ($self:ident, $function:ident $(, $arg:expr)*) => {{
+        let Self { image, cache, slots, out, .. } = $self;
+        // SAFETY: each pointer goes with the length of what it points to.
+        let no = unsafe {
+            $function(image.as_mut_ptr(), image.len(), E, cache.as_mut_ptr(), 64, *slots, $($arg,)* out.as_mut_ptr(), 5)
+        };
+        $self.erased += $self.out[0];
+        no
+    }};
+}
+
 pub struct Ours<const E: usize> {
     image: Vec<u8>,
     cache: [u32; 64],
@@ -81,68 +94,23 @@ impl<const E: usize> Side for Ours<E> {
     }
 
     fn fetch(&mut self, key: u32) -> Option<&[u8]> {
-        // SAFETY: each pointer goes with the length of what it points to.
-        let no = unsafe {
-            map_fetch_item(
-                self.image.as_mut_ptr(),
-                self.image.len(),
-                E,
-                self.cache.as_mut_ptr(),
-                64,
-                self.slots,
-                key,
-                self.out.as_mut_ptr(),
-                5,
-            )
-        };
+        let no = call!(self, map_fetch_item, key);
         assert_eq!(no, 0);
-        self.erased += self.out[0];
         (self.out[1] == 1).then(|| self.value())
     }
 
     fn store(&mut self, key: u32, value: &[u8]) -> bool {
-        // SAFETY: as above.
-        let no = unsafe {
-            map_store_item(
-                self.image.as_mut_ptr(),
-                self.image.len(),
-                E,
-                self.cache.as_mut_ptr(),
-                64,
-                self.slots,
-                key,
-                value.as_ptr(),
-                value.len(),
-                self.out.as_mut_ptr(),
-                5,
-            )
-        };
+        let no = call!(self, map_store_item, key, value.as_ptr(), value.len());
         assert!(no == 0 || no == 7);
-        self.erased += self.out[0];
         no == 0
     }
 
     fn walk(&mut self, mut item: impl FnMut(u32, &[u8])) {
         let mut cursor = [0; 3];
-        // SAFETY: as above.
-        let no = unsafe {
-            map_walk_start(
-                self.image.as_mut_ptr(),
-                self.image.len(),
-                E,
-                self.cache.as_mut_ptr(),
-                64,
-                self.slots,
-                cursor.as_mut_ptr(),
-                3,
-                self.out.as_mut_ptr(),
-                5,
-            )
-        };
+        let no = call!(self, map_walk_start, cursor.as_mut_ptr(), 3);
         assert_eq!(no, 0);
-        self.erased += self.out[0];
         loop {
-            // SAFETY: as above.
+            // SAFETY: as in `call!`.
             let no = unsafe {
                 map_walk_step(
                     self.image.as_ptr(),

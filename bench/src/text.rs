@@ -1,69 +1,11 @@
 //! The Rust text, unchanged: one `MapStorage` is kept for the run, over a flash in memory.
 use crate::side::Side;
-use embedded_storage_async::nor_flash::{ErrorType, MultiwriteNorFlash, NorFlash, ReadNorFlash};
+use oracle::{Flash, block_on};
 use sequential_storage::{
     Error,
     cache::Cache,
     map::{MapConfig, MapStorage},
 };
-use std::{
-    convert::Infallible,
-    future::Future,
-    pin::pin,
-    task::{Context, Poll, Waker},
-};
-
-/// Words of 4 bytes; programming is AND, erasing makes 0xFF.
-struct Flash<const E: usize> {
-    image: Vec<u8>,
-    erased: u32,
-}
-
-impl<const E: usize> ErrorType for Flash<E> {
-    type Error = Infallible;
-}
-
-impl<const E: usize> ReadNorFlash for Flash<E> {
-    const READ_SIZE: usize = 4;
-
-    async fn read(&mut self, offset: u32, bytes: &mut [u8]) -> Result<(), Infallible> {
-        bytes.copy_from_slice(&self.image[offset as usize..][..bytes.len()]);
-        Ok(())
-    }
-
-    fn capacity(&self) -> usize {
-        self.image.len()
-    }
-}
-
-impl<const E: usize> NorFlash for Flash<E> {
-    const WRITE_SIZE: usize = 4;
-    const ERASE_SIZE: usize = E;
-
-    async fn erase(&mut self, from: u32, to: u32) -> Result<(), Infallible> {
-        self.image[from as usize..to as usize].fill(0xFF);
-        self.erased += (to - from) / E as u32;
-        Ok(())
-    }
-
-    async fn write(&mut self, offset: u32, bytes: &[u8]) -> Result<(), Infallible> {
-        let place = &mut self.image[offset as usize..][..bytes.len()];
-        place.iter_mut().zip(bytes).for_each(|(old, new)| *old &= new);
-        Ok(())
-    }
-}
-
-impl<const E: usize> MultiwriteNorFlash for Flash<E> {}
-
-fn block_on<F: Future>(future: F) -> F::Output {
-    let mut future = pin!(future);
-    let mut context = Context::from_waker(Waker::noop());
-    loop {
-        if let Poll::Ready(value) = future.as_mut().poll(&mut context) {
-            return value;
-        }
-    }
-}
 
 pub struct Text<const E: usize> {
     map: MapStorage<u32, Flash<E>, Cache>,
@@ -73,7 +15,7 @@ pub struct Text<const E: usize> {
 
 fn map<const E: usize>(image: Vec<u8>, slots: usize) -> MapStorage<u32, Flash<E>, Cache> {
     let config = MapConfig::new(0..image.len() as u32);
-    MapStorage::new(Flash { image, erased: 0 }, config, Cache::new(slots))
+    MapStorage::new(Flash::new(image), config, Cache::new(slots))
 }
 
 impl<const E: usize> Side for Text<E> {

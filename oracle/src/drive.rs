@@ -2,69 +2,13 @@
 //!
 //! The text takes the page size from the flash's type, so there is a type for each size in `PAGE_SIZES`. Each call builds
 //! the text's `MapStorage` from flash and cache and takes both back by its `destroy`.
-use embedded_storage_async::nor_flash::{ErrorType, MultiwriteNorFlash, NorFlash, ReadNorFlash};
+use oracle::{Flash, block_on};
 use sequential_storage::{
     Error,
     cache::Cache,
     map::{MapConfig, MapConfigError, MapStorage},
 };
-use std::{
-    convert::Infallible,
-    pin::pin,
-    task::{Context, Poll, Waker},
-};
-
-/// Words of 4 bytes. Programming is AND, erasing makes FF; erased pages are counted. Nothing fails.
-struct Flash<const E: usize> {
-    image: Vec<u8>,
-    erased: u32,
-}
-
-impl<const E: usize> ErrorType for Flash<E> {
-    type Error = Infallible;
-}
-
-impl<const E: usize> ReadNorFlash for Flash<E> {
-    const READ_SIZE: usize = 4;
-    async fn read(&mut self, offset: u32, bytes: &mut [u8]) -> Result<(), Infallible> {
-        bytes.copy_from_slice(&self.image[offset as usize..][..bytes.len()]);
-        Ok(())
-    }
-    fn capacity(&self) -> usize {
-        self.image.len()
-    }
-}
-
-impl<const E: usize> NorFlash for Flash<E> {
-    const WRITE_SIZE: usize = 4;
-    const ERASE_SIZE: usize = E;
-    async fn erase(&mut self, from: u32, to: u32) -> Result<(), Infallible> {
-        assert!((from as usize).is_multiple_of(E) && (to as usize).is_multiple_of(E));
-        self.image[from as usize..to as usize].fill(0xFF);
-        self.erased += (to - from) / E as u32;
-        Ok(())
-    }
-    async fn write(&mut self, offset: u32, bytes: &[u8]) -> Result<(), Infallible> {
-        assert!(offset.is_multiple_of(4) && bytes.len().is_multiple_of(4));
-        let range = offset as usize..offset as usize + bytes.len();
-        for (old, new) in self.image[range].iter_mut().zip(bytes) {
-            *old &= new;
-        }
-        Ok(())
-    }
-}
-
-impl<const E: usize> MultiwriteNorFlash for Flash<E> {}
-
-fn block_on<F: Future>(future: F) -> F::Output {
-    let mut future = pin!(future);
-    let mut context = Context::from_waker(Waker::noop());
-    loop {
-        if let Poll::Ready(value) = future.as_mut().poll(&mut context) {
-            return value;
-        }
-    }
-}
+use std::convert::Infallible;
 
 /// Document 01's number of an error. The others can't come from blank flash without faults.
 fn number(e: Error<Infallible>) -> u32 {
@@ -181,7 +125,7 @@ fn make<const E: usize>(len: usize, size: usize) -> Result<Box<dyn Map>, u32> {
         Err(other) => panic!("an answer that the list has no number for: {other:?}"),
         Ok(_) => {}
     }
-    let flash = Flash::<E> { image: vec![0xFF; len], erased: 0 };
+    let flash = Flash::<E>::new(vec![0xFF; len]);
     let buffer = vec![0; 80_000];
     Ok(Box::new(Driver { parts: Some((flash, Cache::new(size))), size, buffer }))
 }

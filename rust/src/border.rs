@@ -57,22 +57,30 @@ fn told(call: impl FnOnce(&mut [u32; 5]) -> u32) -> Told {
     Told { erased, answer }
 }
 
+/// A call that may change image and cache: what it takes after the cache size goes before the out.
+macro_rules! changing {
+    ($function:ident, $image:ident, $page:ident, $cache:ident $(, $arg:expr)*) => {{
+        let Cache { words, size } = $cache;
+        // SAFETY: image, words, out and a cursor are `&mut`, so live and apart from each other and from a value, which is
+        // only read; each pointer goes with its own length.
+        told(|out| unsafe {
+            $function(
+                $image.as_mut_ptr(),
+                $image.len(),
+                $page,
+                words.as_mut_ptr(),
+                words.len(),
+                *size,
+                $($arg,)*
+                out.as_mut_ptr(),
+                out.len(),
+            )
+        })
+    }};
+}
+
 pub(crate) fn fetch_item(image: &mut [u8], page: usize, cache: &mut Cache, key: u32) -> Told {
-    let Cache { words, size } = cache;
-    // SAFETY: image, words and out are three `&mut`, so live and apart, each with its own length.
-    told(|out| unsafe {
-        map_fetch_item(
-            image.as_mut_ptr(),
-            image.len(),
-            page,
-            words.as_mut_ptr(),
-            words.len(),
-            *size,
-            key,
-            out.as_mut_ptr(),
-            out.len(),
-        )
-    })
+    changing!(map_fetch_item, image, page, cache, key)
 }
 
 pub(crate) fn fetch_plain(image: &[u8], page: usize, key: u32) -> Told {
@@ -81,95 +89,23 @@ pub(crate) fn fetch_plain(image: &[u8], page: usize, key: u32) -> Told {
 }
 
 pub(crate) fn store_item(image: &mut [u8], page: usize, cache: &mut Cache, key: u32, value: &[u8]) -> Told {
-    let Cache { words, size } = cache;
-    // SAFETY: image, words and out are three `&mut`, so live and apart from each other and from value, which is only
-    // read; each with its own length.
-    told(|out| unsafe {
-        map_store_item(
-            image.as_mut_ptr(),
-            image.len(),
-            page,
-            words.as_mut_ptr(),
-            words.len(),
-            *size,
-            key,
-            value.as_ptr(),
-            value.len(),
-            out.as_mut_ptr(),
-            out.len(),
-        )
-    })
+    changing!(map_store_item, image, page, cache, key, value.as_ptr(), value.len())
 }
 
 pub(crate) fn remove_item(image: &mut [u8], page: usize, cache: &mut Cache, key: u32) -> Told {
-    let Cache { words, size } = cache;
-    // SAFETY: image, words and out are three `&mut`, so live and apart, each with its own length.
-    told(|out| unsafe {
-        map_remove_item(
-            image.as_mut_ptr(),
-            image.len(),
-            page,
-            words.as_mut_ptr(),
-            words.len(),
-            *size,
-            key,
-            out.as_mut_ptr(),
-            out.len(),
-        )
-    })
+    changing!(map_remove_item, image, page, cache, key)
 }
 
 pub(crate) fn remove_all_items(image: &mut [u8], page: usize, cache: &mut Cache) -> Told {
-    let Cache { words, size } = cache;
-    // SAFETY: image, words and out are three `&mut`, so live and apart, each with its own length.
-    told(|out| unsafe {
-        map_remove_all_items(
-            image.as_mut_ptr(),
-            image.len(),
-            page,
-            words.as_mut_ptr(),
-            words.len(),
-            *size,
-            out.as_mut_ptr(),
-            out.len(),
-        )
-    })
+    changing!(map_remove_all_items, image, page, cache)
 }
 
 pub(crate) fn erase_all(image: &mut [u8], page: usize, cache: &mut Cache) -> Told {
-    let Cache { words, size } = cache;
-    // SAFETY: image, words and out are three `&mut`, so live and apart, each with its own length.
-    told(|out| unsafe {
-        map_erase_all(
-            image.as_mut_ptr(),
-            image.len(),
-            page,
-            words.as_mut_ptr(),
-            words.len(),
-            *size,
-            out.as_mut_ptr(),
-            out.len(),
-        )
-    })
+    changing!(map_erase_all, image, page, cache)
 }
 
 pub(crate) fn walk_start(image: &mut [u8], page: usize, cache: &mut Cache, cursor: &mut Cursor) -> Told {
-    let Cache { words, size } = cache;
-    // SAFETY: image, words, cursor and out are four `&mut`, so live and apart, each with its own length.
-    told(|out| unsafe {
-        map_walk_start(
-            image.as_mut_ptr(),
-            image.len(),
-            page,
-            words.as_mut_ptr(),
-            words.len(),
-            *size,
-            cursor.as_mut_ptr(),
-            cursor.len(),
-            out.as_mut_ptr(),
-            out.len(),
-        )
-    })
+    changing!(map_walk_start, image, page, cache, cursor.as_mut_ptr(), cursor.len())
 }
 
 pub(crate) fn walk_step(image: &[u8], page: usize, cursor: &mut Cursor) -> Told {

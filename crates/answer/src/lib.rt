@@ -1,10 +1,19 @@
-// The answers' numbers, and the refusals that come before a call.
+// The answers' numbers and what they show, and the refusals that come before a call.
 ghost use mathlib.Core.Path.{_≡_};
 ghost use Prim.Native.Nat.{_≤_, _<_};
 ghost use Rattle.rules.specs.Answers.{number, isNo, refusal};
 ghost use Rattle.rules.specs.Calls.{geoOf};
+ghost use Rattle.answer.specs.Code.{shownOf};
 use rules::Answer;
 use rules::Geo;
+
+// What an answer shows: its kind (0 nothing, 1 a value or an item), place, length and key.
+pub struct Shown {
+    pub kind: u32,
+    pub place: usize,
+    pub len: usize,
+    pub key: u32,
+}
 
 // The answer's number in the table of answers.
 pub fn number(a: Answer) -> u32
@@ -31,6 +40,42 @@ pub fn is(a: Answer, no: u32) -> bool
     ensures { λ r. ⌜ r ≡ isNo no a ⌝ }
 {
     number(a) == no
+}
+
+// What an answer shows.
+pub fn show(a: Answer) -> Shown
+    ensures { λ r. ⌜ r ≡ shownOf a ⌝ }
+{
+    let nothing = Shown {
+        kind: 0,
+        place: 0,
+        len: 0,
+        key: 0,
+    };
+    match a {
+        Answer::Done => nothing,
+        Answer::Value(place, len) => Shown {
+            kind: 1,
+            place,
+            len,
+            key: 0,
+        },
+        Answer::None => nothing,
+        Answer::Item(key, place, len) => Shown {
+            kind: 1,
+            place,
+            len,
+            key,
+        },
+        Answer::EndRangeNotAtPageBoundary => nothing,
+        Answer::RangeTooSmall => nothing,
+        Answer::PagesTooSmall => nothing,
+        Answer::Geometry => nothing,
+        Answer::CacheSize => nothing,
+        Answer::ItemTooBig => nothing,
+        Answer::FullStorage => nothing,
+        Answer::Corrupted => nothing,
+    }
 }
 
 // The first refusal that is due, Done where none is. A call without a cache or a value has 0 there.

@@ -9,11 +9,12 @@ use native.Mathlib.Nat.{mul-le-mul-left, mul-le-mul-right}
 use Rattle.rules.specs.declared.{Answer.the-variants.Done, Cursor.Cursor}
 use Rattle.rules.specs.Answers.{paper}
 use Rattle.rules.specs.Calls.{Call, Lent, Told, fetchAllItems, nextItem, called}
+use Rattle.answer.specs.Code.{shownBy}
 use Rattle.theory.specs.Kept.{Lie}
 use Rattle.theory.specs.Steps.{CursorIn}
 use Rattle.promises.specs.Promise.{refusalOf}
 use Rattle.promises.specs.Behind.{held, erased-in, answer-in, cursor-in}
-use Rattle.capi.specs.Code.{Word, Fits, CursorFits, shownBy}
+use Rattle.capi.specs.Code.{Word, Fits, CursorFits}
 
 module _ (E m : ℕ) (call : Call) (l : Lent) where
   small : refusalOf 4 E m call l ≡ Done → length (l .image) ≤ 8388608

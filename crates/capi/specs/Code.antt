@@ -8,11 +8,12 @@ use lib.ListN.{length, getD, take, drop}
 use Rattle.rules.specs.declared.{Cursor.Cursor, Answer.Answer}
 use Rattle.rules.specs.Bytes.{pick}
 use Rattle.rules.specs.Cache.{Pointer, Cache as Entries}
-use Rattle.rules.specs.Answers.{paper, number, isNo}
+use Rattle.rules.specs.Answers.{number, isNo}
 use Rattle.rules.specs.Calls.{Told as Handed, Call, noCursor, called, fetchItem, fetchPlain, fetchAllItems, nextItem}
+use Rattle.answer.specs.declared.{Shown.Shown}
+use Rattle.answer.specs.Code.{shownOf}
 use Rattle.cache.specs.declared.{Cache.Cache}
 use Rattle.cache.specs.Code.{entries}
-use Rattle.capi.specs.declared.Shown.{Shown}
 
 -- a number that fits a word
 abbrev pub Word : ℕ → Type 0
@@ -55,16 +56,6 @@ abbrev pub CursorFits : Cursor → Type 0
 CursorFits c = Word (c .first) × Word (c .page) × Word (c .place)
 
 -- ---- out: erased pages, kind, place, length, key
-
--- an answer's values: none, place and length of a value, or key, place and length of an item
-abbrev pub shownBy : List ℕ → Shown
-shownBy (k ∷ p ∷ l ∷ vs) = record { kind = 1; place = p; len = l; key = k }
-shownBy (p ∷ l ∷ []) = record { kind = 1; place = p; len = l; key = 0 }
-shownBy (p ∷ []) = record { kind = 0; place = 0; len = 0; key = 0 }
-shownBy [] = record { kind = 0; place = 0; len = 0; key = 0 }
-
-abbrev pub shownOf : Answer → Shown
-shownOf a = shownBy (paper a .values)
 
 -- the five words of an answer with its erase count
 abbrev pub shownWords : ℕ → Shown → List ℕ

@@ -7,20 +7,12 @@ ghost use Rattle.rules.specs.Answers.{number};
 ghost use Rattle.rules.specs.Cache.{lookup};
 ghost use Rattle.rules.specs.Calls.{fetchItem, storeItem, removeItem, removeAllItems, eraseAllPages};
 ghost use Rattle.cache.specs.Code.{pointers};
-ghost use Rattle.capi.specs.Code.{Word, Fits, CursorFits, entriesOf, lentCache, StillOk, cacheWords, cursorOf, cursorWords, cursorAfter, shownOf, outWords, border, plainBorder, startBorder, stepBorder};
+ghost use Rattle.capi.specs.Code.{Word, Fits, CursorFits, entriesOf, lentCache, StillOk, cacheWords, cursorOf, cursorWords, cursorAfter, outWords, border, plainBorder, startBorder, stepBorder};
 use cache::Cache;
 use map::Told;
 use rules::Answer;
 use rules::Cursor;
 use search::Cached;
-
-// What an answer shows: its kind (0 nothing, 1 a value or an item), place, length and key.
-pub struct Shown {
-    pub kind: u32,
-    pub place: usize,
-    pub len: usize,
-    pub key: u32,
-}
 
 // 32 words as an array.
 fn half(words: &[u32]) -> [u32; 32]
@@ -77,42 +69,6 @@ fn word(n: usize) -> u32
     n as u32
 }
 
-// What an answer shows.
-fn show(a: Answer) -> Shown
-    ensures { λ r. ⌜ r ≡ shownOf a ⌝ }
-{
-    let nothing = Shown {
-        kind: 0,
-        place: 0,
-        len: 0,
-        key: 0,
-    };
-    match a {
-        Answer::Done => nothing,
-        Answer::Value(place, len) => Shown {
-            kind: 1,
-            place,
-            len,
-            key: 0,
-        },
-        Answer::None => nothing,
-        Answer::Item(key, place, len) => Shown {
-            kind: 1,
-            place,
-            len,
-            key,
-        },
-        Answer::EndRangeNotAtPageBoundary => nothing,
-        Answer::RangeTooSmall => nothing,
-        Answer::PagesTooSmall => nothing,
-        Answer::Geometry => nothing,
-        Answer::CacheSize => nothing,
-        Answer::ItemTooBig => nothing,
-        Answer::FullStorage => nothing,
-        Answer::Corrupted => nothing,
-    }
-}
-
 // Five words, each set.
 fn set_five(out: &mut [u32], erased: u32, kind: u32, place: u32, len: u32, key: u32)
     requires { ⌜ length (now out) ≡ 5 ⌝ }
@@ -130,7 +86,7 @@ fn put_out(out: &mut [u32], erased: usize, a: Answer)
     requires { ⌜ (length (now out) ≡ 5) × Fits erased a ⌝ }
     ensures { λ _. ⌜ now (out .exit) ≡ outWords erased a ⌝ }
 {
-    let s = show(a);
+    let s = answer::show(a);
     let count = word(erased);
     let place = word(s.place);
     let len = word(s.len);

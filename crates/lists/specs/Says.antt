@@ -4,14 +4,16 @@ use mathlib.Core.Bool.{Bool, true, false}
 use mathlib.Core.List.{List, [], _∷_}
 use lib.ListN.{length}
 use lib.Dec.{eqb}
-use Rattle.rules.specs.declared.{Cursor.Cursor, Answer.Answer}
+use Rattle.rules.specs.declared.{Cursor.Cursor}
 use Rattle.rules.specs.Bytes.{both}
 use Rattle.rules.specs.Cache.{Cache as Entries}
-use Rattle.rules.specs.Answers.{paper, number, isNo}
+use Rattle.rules.specs.Answers.{number, isNo}
 use Rattle.rules.specs.Fetch.{view}
 use Rattle.rules.specs.Calls.{Lent, Told, called, fetchItem, fetchPlain}
+use Rattle.answer.specs.declared.{Shown.Shown}
+use Rattle.answer.specs.Code.{shownOf}
 use Rattle.cache.specs.Code.{pointers}
-use Rattle.lists.specs.declared.{play.Says.Says, play.Seen.Seen, play.Shown.Shown, play.Played.Played}
+use Rattle.lists.specs.declared.{play.Says.Says, play.Seen.Seen, play.Played.Played}
 
 -- ---- digests
 
@@ -48,16 +50,6 @@ abbrev pub follows : List ℕ → ℕ → ℕ → Bool
 follows s b step = alike s (valueOf (length s) b step)
 
 -- ---- what a line says of a call
-
--- an answer's values: none, place and length of a value, or key, place and length of an item
-abbrev pub shownBy : List ℕ → Shown
-shownBy (k ∷ p ∷ l ∷ vs) = record { kind = 2; key = k; place = p; len = l }
-shownBy (p ∷ l ∷ []) = record { kind = 1; key = 0; place = p; len = l }
-shownBy (p ∷ []) = record { kind = 0; key = 0; place = 0; len = 0 }
-shownBy [] = record { kind = 0; key = 0; place = 0; len = 0 }
-
-abbrev pub shownOf : Answer → Shown
-shownOf a = shownBy (paper a .values)
 
 -- what an answer shows is as the line says: nothing, a value, or an item; the value's bytes are those of the image
 unfoldable pub shows : Seen → List ℕ → Shown → Bool

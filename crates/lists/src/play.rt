@@ -3,8 +3,9 @@ ghost use mathlib.Core.Path.{_≡_};
 ghost use mathlib.Core.Bool.{true};
 ghost use Rattle.rules.specs.Bytes.{both};
 ghost use Rattle.rules.specs.Calls.{called, storeItem, removeItem, removeAllItems, eraseAllPages, fetchAllItems, nextItem, noCursor};
+ghost use Rattle.answer.specs.Code.{shownOf};
 ghost use Rattle.map.specs.Code.{lentOf, toldOf};
-ghost use Rattle.lists.specs.Says.{shownOf, shows, agrees, judged, fetched, judgedStep, playedOf};
+ghost use Rattle.lists.specs.Says.{shows, agrees, judged, fetched, judgedStep, playedOf};
 use crate::digest;
 use crate::value;
 use cache::Cache;
@@ -29,21 +30,13 @@ pub struct Says {
     pub cache: u64,
 }
 
-// What a line says that an answer shows: kind (0 nothing, 1 a value, 2 an item), key, and the value.
+// What a line says that an answer shows: kind (0 nothing, 1 a value or an item), key, and the value.
 pub struct Seen {
     pub kind: u32,
     pub key: u32,
     pub len: usize,
     pub first: u8,
     pub step: u8,
-}
-
-// What an answer shows, with the value's place.
-pub struct Shown {
-    pub kind: u32,
-    pub key: u32,
-    pub place: usize,
-    pub len: usize,
 }
 
 // What a call leaves beside the image, and whether it is as its line says.
@@ -53,47 +46,11 @@ pub struct Played {
     pub equal: bool,
 }
 
-// What an answer shows.
-fn show(a: Answer) -> Shown
-    ensures { λ r. ⌜ r ≡ shownOf a ⌝ }
-{
-    let nothing = Shown {
-        kind: 0,
-        key: 0,
-        place: 0,
-        len: 0,
-    };
-    match a {
-        Answer::Done => nothing,
-        Answer::Value(place, len) => Shown {
-            kind: 1,
-            key: 0,
-            place,
-            len,
-        },
-        Answer::None => nothing,
-        Answer::Item(key, place, len) => Shown {
-            kind: 2,
-            key,
-            place,
-            len,
-        },
-        Answer::EndRangeNotAtPageBoundary => nothing,
-        Answer::RangeTooSmall => nothing,
-        Answer::PagesTooSmall => nothing,
-        Answer::Geometry => nothing,
-        Answer::CacheSize => nothing,
-        Answer::ItemTooBig => nothing,
-        Answer::FullStorage => nothing,
-        Answer::Corrupted => nothing,
-    }
-}
-
 // Does the answer show on this image what the line says?
 fn shows(img: &[u8], a: Answer, v: Seen) -> bool
     ensures { λ r. ⌜ r ≡ shows v (now (img .entry)) (shownOf a) ⌝ }
 {
-    let s = show(a);
+    let s = answer::show(a);
     if s.kind != v.kind {
         return false;
     }

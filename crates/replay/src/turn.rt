@@ -73,11 +73,11 @@ fn says(n: [u32; 8], k: usize) -> Says
 }
 
 // What a line says that an answer shows, its value from number k on.
-fn seen(kind: u32, key: u32, n: [u32; 8], k: usize) -> Seen
+fn seen(key: u32, n: [u32; 8], k: usize) -> Seen
     requires { ⌜ k ≤ 5 ⌝ }
 {
     Seen {
-        kind,
+        kind: 1,
         key,
         len: wide(n[k]),
         first: byte(n[k + 1]),
@@ -166,7 +166,7 @@ fn fetch(img: &mut [u8], run: Run, l: Line) -> Turned {
     if l.count == 8 {
         return going_on(
             run,
-            play::fetch(img, run, n[0], says(n, 1), seen(1, 0, n, 5)),
+            play::fetch(img, run, n[0], says(n, 1), seen(0, n, 5)),
         );
     }
     unreadable(run)
@@ -214,7 +214,7 @@ fn item(img: &[u8], run: Run, l: Line) -> Turned {
     if l.count != 4 {
         return unreadable(run);
     }
-    going_on(run, play::step(img, run, seen(2, n[0], n, 1)))
+    going_on(run, play::step(img, run, seen(n[0], n, 1)))
 }
 
 // z: a walk's step at its end.

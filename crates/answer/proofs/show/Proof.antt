@@ -1,7 +1,7 @@
--- `lists::play::show` meets its contract: answer by answer.
+-- `answer::show` meets its contract.
 use borrow.Author.Needs.{needs}
-use Rattle.lists.proofs.play.show.Statement.{statement}
-use Rattle.lists.proofs.play.show.Tie as tie
+use Rattle.answer.proofs.show.Statement.{statement}
+use Rattle.answer.proofs.show.Tie as tie
 
 returns : tie.Need-returns
 returns c = rw (c .enum-told .given .1)

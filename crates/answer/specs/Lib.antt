@@ -1,0 +1,2 @@
+-- what an answer shows
+pub mod Code
