@@ -164,10 +164,7 @@ fn fetch(img: &mut [u8], run: Run, l: Line) -> Turned {
         return going_on(run, play::fetch(img, run, n[0], says(n, 1), nothing()));
     }
     if l.count == 8 {
-        return going_on(
-            run,
-            play::fetch(img, run, n[0], says(n, 1), seen(0, n, 5)),
-        );
+        return going_on(run, play::fetch(img, run, n[0], says(n, 1), seen(0, n, 5)));
     }
     unreadable(run)
 }
