@@ -5,9 +5,9 @@ use native.Mathlib.Omega.{arith}
 use mathlib.Core.List.{List, [], _∷_, _++_}
 use lib.ListN.{length, take, drop, replicate, length-append, length-replicate, take-append-drop}
 use lib.Seq.{length-take-le, take-at, drop-at, append-snoc}
-use Rattle.rules.specs.Cache.{Pointer, others, note, forget, clear}
+use Rattle.rules.specs.Cache.{Pointer, others, forget, clear}
 use Rattle.cache.specs.declared.Cache.{Cache}
-use Rattle.cache.specs.Code.{entries, pointers, Past}
+use Rattle.cache.specs.Code.{entries, pointers, Past, NotedOk}
 use Rattle.cache.proofs.Cut.{cut, length-cut, drop-cut}
 use Rattle.cache.proofs.Entries.{length-entries, entries-append, clear-is, note-is, Hit}
 use Rattle.cache.proofs.Pointers.{Sized, length-pointers, pointers-cut}
@@ -50,15 +50,21 @@ module _ (c d : Cache) (n : ℕ) (s : Sized n c) where
 
     -- the key with its place before the others
     pub noted : (key place : ℕ) → others key (pointers n c) ≡ cut (pointers n c) j
-        → d .keys ≡ key ∷ cut (c .keys) j → d .places ≡ place ∷ cut (c .places) j → Renewed n c d (note key place (pointers n c))
+        → d .keys ≡ key ∷ cut (c .keys) j → d .places ≡ place ∷ cut (c .places) j → NotedOk n key place c d
     noted key place o ek ep =
         let ks = take (n - 1) (cut (c .keys) j) in
         let ps = take (n - 1) (cut (c .places) j) in
         let lk = short (c .keys) (s .keys-long) in
         let lp = short (c .places) (s .places-long) in
-        rw (note-is key place (pointers n c) (omega (arith, length-pointers c n s)), o, ← pointers-cut c n s j l)
-        (renewed c d n (key ∷ ks) (place ∷ ps) (omega arith) (omega arith)
-        (ahead (c .keys) (d .keys) key ek) (ahead (c .places) (d .places) place ep))
+        let r =
+        renewed c d n (key ∷ ks) (place ∷ ps) (omega arith) (omega arith)
+        (ahead (c .keys) (d .keys) key ek) (ahead (c .places) (d .places) place ep) in
+        record {
+          noted = rw (note-is key place (pointers n c) (omega (arith, length-pointers c n s)), o, ← pointers-cut c n s j l) (r .0);
+          past = r .1;
+          keys-long = rw ek (omega (arith, length-cut (c .keys) j (omega arith)));
+          places-long = rw ep (omega (arith, length-cut (c .places) j (omega arith)));
+        }
 
     -- an empty entry after the others
     pub forgotten : (key : ℕ) → Hit key (pointers n c) j

@@ -2,9 +2,9 @@
 ghost use mathlib.Core.Path.{_≡_};
 ghost use mathlib.Core.List.{_∷_, _++_};
 ghost use Prim.Native.Nat.{suc, _-_, _≤_, _<_};
-ghost use lib.ListN.{take, drop, replicate};
+ghost use lib.ListN.{length, take, drop, replicate};
 ghost use Rattle.rules.specs.Cache.{lookup, note, forget, clear};
-ghost use Rattle.cache.specs.Code.{pointers, Past, index};
+ghost use Rattle.cache.specs.Code.{arrays, pointers, Past, NotedOk, index};
 
 // Entries in order, newest first. Place 0 is an empty entry.
 #[repr(C)]
@@ -14,14 +14,14 @@ pub struct Cache {
 }
 
 // The index of the first entry in use with the key; size where there is none.
-fn seek(cache: Cache, size: usize, key: u32) -> usize
-    requires { ⌜ size ≤ 32 ⌝ }
-    ensures { λ r. ⌜ r ≡ index key (pointers size cache) ⌝ }
+fn seek<'a>(keys: &'a [u32; 32], places: &'a [u32; 32], size: usize, key: u32) -> usize
+    requires { ⌜ (length (now keys) ≡ 32) × (length (now places) ≡ 32) × (size ≤ 32) ⌝ }
+    ensures { λ r. ⌜ r ≡ index key (pointers size (arrays (now (keys .entry)) (now (places .entry)))) ⌝ }
 {
     let mut i: usize = 0;
     while i < size {
-        if cache.keys[i] == key {
-            if cache.places[i] != 0 {
+        if keys[i] == key {
+            if places[i] != 0 {
                 return i;
             }
         }
@@ -31,20 +31,18 @@ fn seek(cache: Cache, size: usize, key: u32) -> usize
 }
 
 // x at the front, and the elements before j one further: the one at j is gone.
-fn shifted(a: [u32; 32], j: usize, x: u32) -> [u32; 32]
-    requires { ⌜ j < 32 ⌝ }
-    ensures { λ r. ⌜ r ≡ x ∷ (take j a ++ drop (suc j) a) ⌝ }
+fn shift(a: &mut [u32; 32], j: usize, x: u32)
+    requires { ⌜ (length (now a) ≡ 32) × (j < 32) ⌝ }
+    ensures { λ _. ⌜ now (a .exit) ≡ x ∷ (take j (now (a .entry)) ++ drop (suc j) (now (a .entry))) ⌝ }
 {
-    let mut b = a;
     let mut carry = x;
     let mut k: usize = 0;
     while k <= j {
-        let t = b[k];
-        b[k] = carry;
+        let t = a[k];
+        a[k] = carry;
         carry = t;
         k += 1;
     }
-    b
 }
 
 // Of the first n elements the one at j is gone, those after it are one nearer, and the last is 0.
@@ -77,16 +75,38 @@ fn zeroed(a: [u32; 32], n: usize) -> [u32; 32]
 }
 
 // The entry at the front, in place of the one at j.
-fn put_first(cache: Cache, j: usize, key: u32, place: u32) -> Cache
-    requires { ⌜ j < 32 ⌝ }
-    ensures { λ r. ⌜ (r .keys ≡ key ∷ (take j (cache .keys) ++ drop (suc j) (cache .keys)))
-        × (r .places ≡ place ∷ (take j (cache .places) ++ drop (suc j) (cache .places))) ⌝ }
+fn put_first(keys: &mut [u32; 32], places: &mut [u32; 32], j: usize, key: u32, place: u32)
+    requires { ⌜ (length (now keys) ≡ 32) × (length (now places) ≡ 32) × (j < 32) ⌝ }
+    ensures { λ _. ⌜ (now (keys .exit) ≡ key ∷ (take j (now (keys .entry)) ++ drop (suc j) (now (keys .entry))))
+        × (now (places .exit) ≡ place ∷ (take j (now (places .entry)) ++ drop (suc j) (now (places .entry)))) ⌝ }
 {
-    let keys = cache.keys;
-    let places = cache.places;
-    let k = shifted(keys, j, key);
-    let p = shifted(places, j, place);
-    Cache { keys: k, places: p }
+    shift(keys, j, key);
+    shift(places, j, place);
+}
+
+// The place that two lent arrays have for the key, 0 where they have none.
+pub fn find_in<'a>(keys: &'a [u32; 32], places: &'a [u32; 32], size: usize, key: u32) -> u32
+    requires { ⌜ (length (now keys) ≡ 32) × (length (now places) ≡ 32) × (size ≤ 32) ⌝ }
+    ensures { λ r. ⌜ r ≡ lookup key (pointers size (arrays (now (keys .entry)) (now (places .entry)))) ⌝ }
+{
+    let i = seek(keys, places, size, key);
+    if i < size { places[i] } else { 0 }
+}
+
+// The key with this place at the front of two lent arrays: its old entry is gone, or else the last.
+pub fn note_in(keys: &mut [u32; 32], places: &mut [u32; 32], size: usize, key: u32, place: u32)
+    requires { ⌜ (length (now keys) ≡ 32) × (length (now places) ≡ 32) × (size ≤ 32) ⌝ }
+    ensures { λ _. ⌜ NotedOk size key place (arrays (now (keys .entry)) (now (places .entry))) (arrays (now (keys .exit)) (now (places .exit))) ⌝ }
+{
+    if size == 0 {
+        return;
+    }
+    let i = seek(keys, places, size, key);
+    if i < size {
+        put_first(keys, places, i, key, place);
+        return;
+    }
+    put_first(keys, places, size - 1, key, place);
 }
 
 // The place that the cache has for the key, 0 where it has none.
@@ -94,23 +114,18 @@ pub fn find(cache: Cache, size: usize, key: u32) -> u32
     requires { ⌜ size ≤ 32 ⌝ }
     ensures { λ r. ⌜ r ≡ lookup key (pointers size cache) ⌝ }
 {
-    let i = seek(cache, size, key);
-    if i < size { cache.places[i] } else { 0 }
+    find_in(&cache.keys, &cache.places, size, key)
 }
 
-// The key with this place at the front: its old entry is gone, or else the last.
+// The key with this place at the front of the cache.
 pub fn note(cache: Cache, size: usize, key: u32, place: u32) -> Cache
     requires { ⌜ size ≤ 32 ⌝ }
     ensures { λ r. ⌜ (pointers size r ≡ note key place (pointers size cache)) × Past size cache r ⌝ }
 {
-    if size == 0 {
-        return cache;
-    }
-    let i = seek(cache, size, key);
-    if i < size {
-        return put_first(cache, i, key, place);
-    }
-    put_first(cache, size - 1, key, place)
+    let mut keys = cache.keys;
+    let mut places = cache.places;
+    note_in(&mut keys, &mut places, size, key, place);
+    Cache { keys, places }
 }
 
 // The key's entry goes empty to the back.
@@ -118,7 +133,7 @@ pub fn forget(cache: Cache, size: usize, key: u32) -> Cache
     requires { ⌜ size ≤ 32 ⌝ }
     ensures { λ r. ⌜ (pointers size r ≡ forget key (pointers size cache)) × Past size cache r ⌝ }
 {
-    let i = seek(cache, size, key);
+    let i = seek(&cache.keys, &cache.places, size, key);
     if size <= i {
         return cache;
     }

@@ -16,7 +16,8 @@ use Rattle.laws.specs.Scans.{scan-stop, scan-skip, scan-item}
 use Rattle.rules.specs.declared.Geo.{Geo}
 use Rattle.rules.specs.Pages.{scanOf, itemsOf, area, areaLen, dataAt, endAt}
 use Rattle.laws.specs.Geometry.{Fit, header-words}
-use Rattle.rules.specs.Fetch.{found, hit}
+use Rattle.rules.specs.Held.{Held}
+use Rattle.rules.specs.Fetch.{found, hitItem, hit}
 use Rattle.rules.specs.Sound.{All}
 use Rattle.laws.specs.Lists.{All-map}
 
@@ -104,6 +105,30 @@ spans-presents w (e ∷ es) = go (isPresent (e .it .kind)) (spans-presents w es)
     go true ih = omega arith
     go false ih = omega arith
 
+-- a size is whole words
+pub size-words : (G : Geo) (len : ℕ) → Held G len → (L : ℕ) → (j : ℕ) × (size (G .word) L ≡ j * G .word)
+unfolding size roundUp
+size-words G len h L =
+    let j = header-words G len h in
+    let e = j .1 in
+    (j .0 + (L + (G .word - 1)) / G .word, omega arith)
+
+-- ---- what a cached place on a word of page q holds
+
+pub hit-at : (G : Geo) (img : List ℕ) → Held G (length img) → (q : ℕ) → q < G .pages
+    → (k a off : ℕ) → a ≡ q * G .page + off * G .word → G .word ≤ off * G .word → a ≤ endAt G q
+    → hit G img k a ≡ hitItem k a (read (G .word) (take (endAt G q - a) (drop a img)))
+unfolding hit
+hit-at G img h q hq k a off a-is lo hi =
+    let r = off * G .word in
+    let r< : r < G .page = omega (arith, h .room, h .low) in
+    let d : a / G .page ≡ q = rw a-is (digits-div q r<) in
+    let m : a % G .page ≡ r = rw a-is (digits-mod q r<) in
+    let z₀ : r ≡ r + 0 = omega arith in
+    let al : r % G .word ≡ 0 = rw z₀ (digits-mod off (omega (arith, h .low))) in
+    let z : G .page - G .word - r ≡ endAt G q - a = omega (arith, h .room) in
+    rw (d, m, al, lt-ltb q (G .pages) hq, le-leb (G .word) r lo, le-leb r (G .page - G .word) (omega (arith, h .room)), z)
+
 -- ---- where an entry of page q stands, and that reading there gives it
 
 pub record Stands (G : Geo) (img : List ℕ) (q : ℕ) (e : Entry) : Type 0 where
@@ -122,14 +147,6 @@ module _ (G : Geo) (img : List ℕ) (ok : Fit G img) (q : ℕ) where
   rest-is a k =
       let z : endAt G q - a - k ≡ endAt G q - (a + k) = omega arith in
       rw (drop-take k (endAt G q - a) (drop a img), drop-drop k a img, z)
-
-  -- a size is whole words
-  pub size-words : (L : ℕ) → (j : ℕ) × (size (G .word) L ≡ j * G .word)
-  unfolding size roundUp
-  size-words L =
-      let j = header-words G (length img) (ok .held) in
-      let e = j .1 in
-      (j .0 + (L + (G .word - 1)) / G .word, omega arith)
 
   pub stands : (f a : ℕ) (off : ℕ) → a ≡ q * G .page + off * G .word → G .word ≤ off * G .word → a ≤ endAt G q
       → All (Stands G img q) (scan (G .word) f a (take (endAt G q - a) (drop a img)) .items)
@@ -155,7 +172,7 @@ module _ (G : Geo) (img : List ℕ) (ok : Fit G img) (q : ℕ) where
           let v = read-item-inv (G .word) s i e in
           let h : z ≤ length s = rw (v .3) (v .1) in
           let hz = le-size (G .word) (i .len) w₊ in
-          let j = size-words (i .len) in
+          let j = size-words G (length img) (ok .held) (i .len) in
           let je = j .1 in
           rw (scan-item (G .word) f a s i e, rest-is a z) (
             record { off = off; at-is = ha; low = lo; high = omega (arith, ls); reads = e },
@@ -174,19 +191,8 @@ module _ (G : Geo) (img : List ℕ) (ok : Fit G img) (q : ℕ) where
 
   -- a cached place of a Present entry is a hit
   pub stands-hit : q < G .pages → (e : Entry) → Stands G img q e → isPresent (e .it .kind) ≡ true → hit G img (e .it .key) (e .at) ≡ found e
-  unfolding hit
   stands-hit hq e S pr =
-      let r = S .off * G .word in
-      let hz = le-size (G .word) (e .it .len) w₊ in
-      let a-is = S .at-is in
-      let hi = S .high in
-      let r< : r < G .page = omega (arith, ok .held .room) in
-      let d : e .at / G .page ≡ q = rw a-is (digits-div q r<) in
-      let m : e .at % G .page ≡ r = rw a-is (digits-mod q r<) in
-      let z₀ : r ≡ r + 0 = omega arith in
-      let al : r % G .word ≡ 0 = rw z₀ (digits-mod (S .off) w₊) in
-      let z : G .page - G .word - r ≡ endAt G q - e .at = omega (arith, ok .held .room) in
-      rw (d, m, al, lt-ltb q (G .pages) hq, le-leb (G .word) r (S .low), le-leb r (G .page - G .word) (omega (arith, ok .held .room)), z, S .reads, pr, eq-eqb (e .it .key) (e .it .key) refl)
+      rw (hit-at G img (ok .held) q hq (e .it .key) (e .at) (S .off) (S .at-is) (S .low) (omega (arith, S .high)), S .reads, pr, eq-eqb (e .it .key) (e .it .key) refl)
 
 -- the scan of a page
 pub page-ok : (G : Geo) (img : List ℕ) → Fit G img → (q : ℕ) → ScanOk (G .word) (dataAt G q) (length (area G img q)) (scanOf G img q)

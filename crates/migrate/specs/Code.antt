@@ -1,21 +1,22 @@
 -- What the migration's code says of its steps.
 use mathlib.Core.Path.{_≡_}
-use Prim.Native.Nat.{ℕ, _+_, _≤_}
+use Prim.Native.Nat.{ℕ, _+_, _*_, _≤_, _<_}
+use mathlib.Core.Bool.{true}
 use mathlib.Core.List.{List, _++_}
-use lib.ListN.{take, drop}
+use lib.ListN.{length, take, drop}
 use Rattle.rules.specs.declared.{Geo.Geo, Answer.the-variants.Done, Answer.the-variants.Corrupted}
 use Rattle.rules.specs.Bytes.{pick, program}
 use Rattle.rules.specs.Items.{isPresent, itemOf, Entry, size, pad, presents}
-use Rattle.rules.specs.Pages.{blankAt}
+use Rattle.rules.specs.Pages.{blankAt, endAt}
 use Rattle.rules.specs.Cache.{note}
 use Rattle.rules.specs.Runs.{St, Out, out, End, end, final}
 use Rattle.rules.specs.Fetch.{fetchIn}
 use Rattle.rules.specs.Store.{migrateOne, migrateAll}
 use Rattle.items.specs.Code.{part, scanIn}
-use Rattle.cache.specs.Code.{pointers}
+use Rattle.cache.specs.Code.{arrays, pointers}
 use Rattle.fetch.specs.declared.{Mem.Mem}
 use Rattle.fetch.specs.Code.{stOf, Kept}
-use Rattle.migrate.specs.declared.{Moved.Moved}
+use Rattle.migrate.specs.declared.{Moved.Moved, Step.Step, Step.the-variants.To, Step.the-variants.Ask}
 
 -- the entry of an item of data length L at place a of an area that ends at e
 abbrev pub entryAt : List ℕ → ℕ → ℕ → ℕ → Entry
@@ -54,6 +55,26 @@ pub record MovedOk (G : Geo) (n : ℕ) (img img′ : List ℕ) (mem : Mem) (a e 
 pub record ItemOk (G : Geo) (n : ℕ) (img img′ : List ℕ) (mem : Mem) (a e L wp : ℕ) (r : Moved) : Type 0 where
   pub step : (k : ℕ → St → Out) → final (goOn r (stOf n img′ (r .mem)) k) ≡ final (stepOf G (entryAt img a e L) wp (stOf n img mem) k)
   pub around : Around G n img img′ mem a e L wp r
+
+-- a place on a word of the data area that ends at e
+pub record Lies (G : Geo) (a e : ℕ) : Type 0 where
+  pub page : ℕ
+  pub off : ℕ
+  pub page-in : page < G .pages
+  pub at-is : a ≡ page * G .page + off * G .word
+  pub low : G .word ≤ off * G .word
+  pub end-is : e ≡ endAt G page
+
+-- the memory of two arrays and a count
+abbrev pub memOf : List ℕ → List ℕ → ℕ → Mem
+memOf ks ps n = record { cache = arrays ks ps; erased = n }
+
+-- a step that the cache settles, or that changes nothing and leaves a Present item to the fetch
+pub record StepOk (G : Geo) (n : ℕ) (img img′ ks ks′ ps ps′ : List ℕ) (a e L wp : ℕ) (s : Step) : Type 0 where
+  pub to : (t erased : ℕ) → s ≡ To t
+      → ItemOk G n img img′ (memOf ks ps erased) a e L wp (record { mem = memOf ks′ ps′ erased; to = t; ok = true })
+  pub ask : s ≡ Ask → (img′ ≡ img) × (ks′ ≡ ks) × (ps′ ≡ ps) × (isPresent (itemOf (part img a e) L .kind) ≡ true) × (4 ≤ L)
+  pub long : (length ks′ ≡ 32) × (length ps′ ≡ 32)
 
 -- the end of a run over items
 abbrev pub endOf : Moved → St → End

@@ -1,25 +1,36 @@
 // Migration: the newest items of a page are copied to another, and the page is erased.
 ghost use mathlib.Core.Path.{_≡_};
+ghost use mathlib.Core.Bool.{true};
 ghost use mathlib.Core.Logic.{_⊎_};
 ghost use Prim.Native.Nat.{_+_, _-_, _^_, _≤_, _<_};
 ghost use lib.ListN.{length};
 ghost use Rattle.rules.specs.Held.{Held};
-ghost use Rattle.rules.specs.Items.{size};
+ghost use Rattle.rules.specs.Items.{read, size};
 ghost use Rattle.rules.specs.Runs.{final};
 ghost use Rattle.rules.specs.Store.{migrate};
+ghost use Rattle.items.specs.declared.{Read.the-variants.Item};
+ghost use Rattle.items.specs.Code.{part, readOf};
 ghost use Rattle.cache.specs.Code.{Past};
 ghost use Rattle.fetch.specs.Code.{stOf};
-ghost use Rattle.migrate.specs.Code.{CopiedOk, MovedOk, ItemOk, AllOk, endOf};
+ghost use Rattle.migrate.specs.Code.{CopiedOk, MovedOk, Lies, memOf, StepOk, AllOk, endOf};
+use cache::Cache;
 use fetch::Mem;
 use items::Read;
 use items::Spot;
 use rules::Geo;
+use search::Cached;
 
 // After an item: the memory, the next place to write, and that nothing was wrong.
 pub struct Moved {
     pub mem: Mem,
     pub to: usize,
     pub ok: bool,
+}
+
+// What the cache alone settles of an item: the next place to write. Else the fetch is asked.
+pub enum Step {
+    To(usize),
+    Ask,
 }
 
 // The item at `at` is noted at `to` and copied there, if all bytes that the copy takes are blank.
@@ -97,25 +108,57 @@ fn migrate_one(
     copy_one(img, g, m, slots, key, at, len, to)
 }
 
-// Any item of the source: one that is not Present is passed over.
-fn migrate_item(
+// What the cache alone settles: an item that is not Present, or whose newest is elsewhere, stays; one whose newest is at its own
+// place is noted at `to` and copied there, if all bytes that the copy takes are blank.
+fn move_cached(
     img: &mut [u8],
     g: Geo,
-    mem: Mem,
+    keys: &mut [u32; 32],
+    places: &mut [u32; 32],
     slots: usize,
     at: usize,
     e: usize,
     len: usize,
     to: usize,
-) -> Moved
-    requires { ⌜ Held g (length (now img)) × (slots ≤ 32) × (len < 65536) × (at + size (g .word) len ≤ e) × (e ≤ length (now img))
+) -> Step
+    requires { ⌜ Held g (length (now img)) × (length (now keys) ≡ 32) × (length (now places) ≡ 32) × (slots ≤ 32) × Lies g at e
+        × (readOf (part (now img) at e) (Item len) ≡ read (g .word) (part (now img) at e)) × (len < 65536) × (at + size (g .word) len ≤ e) × (e ≤ length (now img))
         × (to + size (g .word) len ≤ length (now img)) × ((to + size (g .word) len ≤ at) ⊎ (e ≤ to)) ⌝ }
-    ensures { λ r. ⌜ ItemOk g slots (now (img .entry)) (now (img .exit)) mem at e len to r ⌝ }
+    ensures { λ r. ⌜ StepOk g slots (now (img .entry)) (now (img .exit)) (now (keys .entry)) (now (keys .exit)) (now (places .entry)) (now (places .exit)) at e len to r ⌝ }
 {
-    if items::present(&img[at..e], len) {
-        return migrate_one(img, g, mem, slots, at, e, len, to);
+    if !items::present(&img[at..e], len) {
+        return Step::To(to);
     }
-    Moved { mem, to, ok: true }
+    let key = items::key(&img[at..e], len);
+    let a = cache::find_in(keys, places, slots, key) as usize;
+    if a == 0 {
+        return Step::Ask;
+    }
+    if a != at {
+        let Cached::At(p, l) = search::hit(img, g, key, a) else {
+            return Step::Ask;
+        };
+        return Step::To(to);
+    }
+    let span = words::size(g.word, len);
+    if !words::all_ff(&img[to..to + span]) {
+        return Step::Ask;
+    }
+    cache::note_in(keys, places, slots, key, to as u32);
+    write::copy_item(img, at, len, to, g.word);
+    Step::To(to + span)
+}
+
+// The memory of two arrays and a count, and where the run stands.
+fn all_moved(keys: [u32; 32], places: [u32; 32], erased: usize, to: usize) -> Moved
+    ensures { λ r. ⌜ r ≡ record { mem = memOf keys places erased; to = to; ok = true } ⌝ }
+{
+    let cache = Cache { keys, places };
+    Moved {
+        mem: Mem { cache, erased },
+        to,
+        ok: true,
+    }
 }
 
 // The items from a place of the source to its end, in order.
@@ -128,49 +171,49 @@ fn migrate_all(
     e: usize,
     to: usize,
 ) -> Moved
-    requires { ⌜ Held g (length (now img)) × (slots ≤ 32) × (a ≤ e) × (e ≤ length (now img)) × (to + (e - a) ≤ length (now img)) × ((to + (e - a) ≤ a) ⊎ (e ≤ to)) ⌝ }
+    requires { ⌜ Held g (length (now img)) × (slots ≤ 32) × Lies g a e × (a ≤ e) × (e ≤ length (now img)) × (to + (e - a) ≤ length (now img)) × ((to + (e - a) ≤ a) ⊎ (e ≤ to)) ⌝ }
     ensures { λ r. ⌜ AllOk g slots (now (img .entry)) (now (img .exit)) mem a e to r ⌝ }
 {
     let w = g.word;
+    let c = mem.cache;
+    let mut keys = c.keys;
+    let mut places = c.places;
     let mut at = a;
     let mut wp = to;
-    let mut held = mem;
     while at < e {
         let r = items::look_at(img, at, e, w);
         match r {
             Read::End => {
-                return Moved {
-                    mem: held,
-                    to: wp,
-                    ok: true,
-                };
+                return all_moved(keys, places, mem.erased, wp);
             }
             Read::Skip => {
                 at += w;
-                continue;
             }
             Read::Item(len) => {
-                let m = migrate_item(img, g, held, slots, at, e, len, wp);
-                let h = m.mem;
-                held = h;
-                wp = m.to;
-                at += words::size(w, len);
-                if m.ok {
+                let next = at + words::size(w, len);
+                let s = move_cached(img, g, &mut keys, &mut places, slots, at, e, len, wp);
+                if let Step::To(t) = s {
+                    wp = t;
+                    at = next;
                     continue;
                 }
-                return Moved {
-                    mem: held,
-                    to: wp,
-                    ok: false,
-                };
+                let cache = Cache { keys, places };
+                let erased = mem.erased;
+                let m = migrate_one(img, g, Mem { cache, erased }, slots, at, e, len, wp);
+                if m.ok {
+                    let h = m.mem;
+                    let d = h.cache;
+                    keys = d.keys;
+                    places = d.places;
+                    wp = m.to;
+                    at = next;
+                    continue;
+                }
+                return m;
             }
         }
     }
-    Moved {
-        mem: held,
-        to: wp,
-        ok: true,
-    }
+    all_moved(keys, places, mem.erased, wp)
 }
 
 // The newest items of the source page go to the target page, and the source is erased.

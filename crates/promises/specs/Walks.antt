@@ -139,7 +139,7 @@ module _ (G : Geo) where
     rest-next q a e es h c =
         let S : All (Stands G img q) (restOf G img q a) = All-presents (Stands G img q) (scan (G .word) (G .page) a (from q a) .items) (stands G img ok q (G .page) a (h .off) (h .at-is) (h .low) (h .high)) in
         let s : Stands G img q e = (subst (All (Stands G img q)) c S) .0 in
-        let j = size-words G img ok q (e .it .len) in
+        let j = size-words G (length img) (ok .held) (e .it .len) in
         let je = j .1 in
         let l = length-take (endAt G q - a) (drop a img) in (
           record { off = s .off + j .0; at-is = omega (arith, s .at-is); low = omega (arith, s .low); high = s .high },

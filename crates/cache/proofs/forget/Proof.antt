@@ -10,18 +10,18 @@ use Rattle.cache.proofs.forget.Tie as tie
 returns : tie.Need-returns
 unfolding forget
 returns c =
-    let a = c .before .before .args in
-    let s : Sized (a .size) (a .cache) = search needs in
-    let z = none (a .cache) (a .size) s (a .key) _ (c .before .seek .ensures) (c .if1 .taken) in
+    let a = c .before .before .before .before .before .args in
+    let s : Sized (a .size) (a .t1) = search needs in
+    let z = none (a .t1) (a .size) s (a .key) _ (c .before .seek .ensures) (c .if1 .taken) in
     (rw z, record { keys-past = refl; places-past = refl })
 
 returns-2 : tie.Need-returns-2
 returns-2 c =
-    let a = c .before .before .before .before .before .before .args in
-    let s : Sized (a .size) (a .cache) = search needs in
+    let a = c .before .before .before .before .before .before .before .before .before .args in
+    let s : Sized (a .size) (a .t1) = search needs in
     let l = c .before .before .before .before .if1 .left in
-    let y = hit (a .cache) (a .size) s (a .key) _ (c .before .before .before .before .before .seek .ensures) l in
-    forgotten (a .cache) _ (a .size) s _ l (a .key) y (c .before .pulled .ensures) (c .pulled2 .ensures)
+    let y = hit (a .t1) (a .size) s (a .key) _ (c .before .before .before .before .before .seek .ensures) l in
+    forgotten (a .t1) _ (a .size) s _ l (a .key) y (c .before .pulled .ensures) (c .pulled2 .ensures)
 
 pub forget-spec : {M : Type 1} → statement M
 forget-spec =

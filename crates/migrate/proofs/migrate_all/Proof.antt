@@ -1,61 +1,273 @@
-use Rattle.migrate.proofs.Laws.{run-none, run-end, run-skip, run-bad, run-on, far}
-use Rattle.migrate.specs.Code.{runOf}
+-- `migrate::migrate_all` meets its contract: in each turn the run from here is the run from the start.
+use Rattle.migrate.proofs.Laws.{item-one, run-none, run-end, run-skip, run-bad, run-on, far}
+use Rattle.migrate.proofs.Cached.{lies-skip, lies-item, kept-apart, run-apart}
+use Rattle.migrate.specs.Code.{Lies, memOf, runOf}
 use Rattle.fetch.specs.Code.{Kept}
 use Rattle.fetch.proofs.Laws.{kept-refl, kept-trans, held-len}
+use Rattle.rules.specs.Held.{Held}
 use Rattle.rules.specs.Items.{size}
 use mathlib.Core.Path.{_≡_, refl, sym, _∙_}
-use Prim.Native.Nat.{_+_, _-_, _≤_}
+use Prim.Native.Nat.{ℕ, _+_, _-_, _≤_}
 use native.Mathlib.Omega.{arith}
 use lib.ListN.{length}
-use borrow.Author.Needs.{needs}
+use borrow.Author.Needs.{needs, length-unmapped}
 use Rattle.migrate.proofs.migrate_all.Statement.{statement}
 use Rattle.migrate.proofs.migrate_all.Tie as tie
 
 abbrev Inv-loop : tie.InvT-loop
-Inv-loop img₀ g slots a e to w at₀ wp₀ held₀ img at wp held = (a ≤ at) × (at ≤ e) × (to ≤ wp) × (wp + (e - at) ≤ to + (e - a)) × (length img ≡ length img₀) × Kept slots held₀ held × (runOf g slots img held at e wp ≡ runOf g slots img₀ held₀ a e to)
+Inv-loop img₀ g mem slots a e to w keys₀ places₀ at₀ wp₀ img keys places at wp =
+    (a ≤ at) × (at ≤ e) × (to ≤ wp) × (wp + (e - at) ≤ to + (e - a)) × (length img ≡ length img₀)
+    × Kept slots mem (memOf keys places (mem .erased))
+    × (runOf g slots img (memOf keys places (mem .erased)) at e wp ≡ runOf g slots img₀ mem a e to)
+    × Lies g at e × (length keys ≡ 32) × (length places ≡ 32)
 
 abbrev μ-loop : tie.MeasureT-loop
-μ-loop img₀ g slots a e to w at₀ wp₀ held₀ img at wp held = e - at
+μ-loop img₀ g mem slots a e to w keys₀ places₀ at₀ wp₀ img keys places at wp = e - at
 
 loop-holds : tie.Need-loop-holds Inv-loop μ-loop
-loop-holds c = (omega arith, omega arith, omega arith, omega arith, refl, kept-refl _ _, refl)
+loop-holds c =
+    let a = c .before .before .before .before .args in
+    let p = c .before .before .before .before .pre in
+    (omega arith, omega (arith, p), omega arith, omega arith, refl, kept-refl _ _, refl, p .2, search needs, search needs)
 
 returns : tie.Need-returns Inv-loop μ-loop
-returns c = let a = c .before .before .before .before .before .before .before .args in let l = c .before .before .before .before .before .loop in record { run = run-end (a .g) (a .slots) (l .img) (l .held) (l .at) (a .e) (l .wp) (omega arith) (omega arith) (c .before .before .look-at .result) (c .before .before .before .before .loop-test .taken) (c .before .before .look-at .ensures .0) (c .enum-told .given .1) ∙ l .inv .6; kept = l .inv .5 }
+returns c =
+    let a = c .before .before .before .before .before .before .before .before .before .before .before .args in
+    let p = c .before .before .before .before .before .before .before .before .before .before .before .pre in
+    let l = c .before .before .before .before .before .before .loop in
+    let t = c .before .before .before .before .before .loop-test in
+    let r = c .before .before .before .look-at in
+    let q = c .before .enum-told in
+    let m = c .all-moved in
+    rw (m .ensures) (record {
+      run = run-end (a .g) (a .slots) (l .img) (memOf (l .keys) (l .places) (a .mem .erased)) (l .at) (a .e) (l .wp) (omega (arith, p .0 .low)) (omega (arith, p .4, l .inv .4)) (r .result) (t .taken) (r .ensures .0) (q .given .1) ∙ l .inv .6;
+      kept = l .inv .5;
+    })
 
 add-at : tie.Need-add-at Inv-loop μ-loop
-add-at c = let f = rw (c .enum-told2 .given .1) at (c .before .before .look-at .ensures .1) in omega arith
+add-at c =
+    let a = c .before .before .before .before .before .before .before .before .before .before .args in
+    let p = c .before .before .before .before .before .before .before .before .before .before .pre in
+    let l = c .before .before .before .before .before .loop in
+    let r = c .before .before .look-at in
+    let q = c .enum-told2 in
+    let f = rw (q .given .1) at (r .ensures .1) in
+    omega (arith, f, p .4, held-len (a .g) (length (a .img .now)) (p .0))
+
+loop-less : tie.Need-loop-less Inv-loop μ-loop
+loop-less c =
+    let a = c .before .before .before .before .before .before .before .before .before .before .args in
+    let p = c .before .before .before .before .before .before .before .before .before .before .pre in
+    let t = c .before .before .before .before .loop-test in
+    omega (arith, t .taken, p .0 .low)
 
 loop-again : tie.Need-loop-again Inv-loop μ-loop
-loop-again c = let a = c .before .before .before .before .before .before .before .args in let l = c .before .before .before .before .before .loop in let f = rw (c .enum-told2 .given .1) at (c .before .before .look-at .ensures .1) in (omega arith, omega arith, omega arith, omega arith, l .inv .4, l .inv .5, sym (run-skip (a .g) (a .slots) (l .img) (l .held) (l .at) (a .e) (l .wp) (omega arith) (omega arith) (c .before .before .look-at .result) (c .before .before .before .before .loop-test .taken) (c .before .before .look-at .ensures .0) (c .enum-told2 .given .1)) ∙ l .inv .6)
-
-migrate-item-requires : tie.Need-migrate-item-requires Inv-loop μ-loop
-migrate-item-requires c κs = let a = c .before .before .before .before .before .before .before .before .before .args in let p = c .before .before .before .before .before .before .before .before .before .pre in let l = c .before .before .before .before .before .before .before .loop in let f = rw (c .before .before .r .given .1) at (c .before .before .before .before .look-at .ensures .1) in (omega (arith, p, l .inv), p .1, omega arith, f .0, omega (arith, p, l .inv), omega (arith, p, l .inv), far (a .a) (l .at) (a .e) (a .to) (l .wp) (size (a .g .word) (c .before .before .r .given .0 .0)) (l .inv .0) (l .inv .2) (l .inv .3) (f .0) (p .5))
+loop-again c =
+    let a = c .before .before .before .before .before .before .before .before .before .before .args in
+    let p = c .before .before .before .before .before .before .before .before .before .before .pre in
+    let l = c .before .before .before .before .before .loop in
+    let t = c .before .before .before .before .loop-test in
+    let r = c .before .before .look-at in
+    let q = c .enum-told2 in
+    let f = rw (q .given .1) at (r .ensures .1) in
+    let i = l .inv in (
+      omega (arith, i .0),
+      f,
+      i .2,
+      omega (arith, i .3),
+      i .4,
+      i .5,
+      sym (run-skip (a .g) (a .slots) (l .img) (memOf (l .keys) (l .places) (a .mem .erased)) (l .at) (a .e) (l .wp) (omega (arith, p .0 .low)) (omega (arith, p .4, l .inv .4)) (r .result) (t .taken) (r .ensures .0) (q .given .1)) ∙ i .6,
+      lies-skip (a .g) (l .at) (a .e) (i .7),
+      i .8,
+      i .9,
+    )
 
 size-requires : tie.Need-size-requires Inv-loop μ-loop
-size-requires c κs = let f = rw (c .before .before .before .before .before .before .r .given .1) at (c .before .before .before .before .before .before .before .before .look-at .ensures .1) in omega arith
+size-requires c κs =
+    let a = c .before .before .before .before .before .before .before .before .before .before .before .args in
+    let p = c .before .before .before .before .before .before .before .before .before .before .before .pre in
+    let r = c .before .before .before .look-at in
+    let q = c .before .r in
+    let f = rw (q .given .1) at (r .ensures .1) in
+    (p .0 .low, p .0 .high, omega (arith, f .2))
 
-add-at-2 : tie.Need-add-at-2 Inv-loop μ-loop
-add-at-2 c = let f = rw (c .before .before .before .before .before .before .before .r .given .1) at (c .before .before .before .before .before .before .before .before .before .look-at .ensures .1) in let a = c .before .before .before .before .before .before .before .before .before .before .before .before .before .before .args in omega (arith, c .size .ensures, f, c .before .before .before .before .before .before .before .before .before .before .before .before .before .before .pre, c .before .before .before .before .before .before .before .before .before .before .before .before .loop .inv, held-len (a .g) (length (a .img .now)) (c .before .before .before .before .before .before .before .before .before .before .before .before .before .before .pre .0))
+add-next : tie.Need-add-next Inv-loop μ-loop
+add-next c =
+    let a = c .before .before .before .before .before .before .before .before .before .before .before .before .args in
+    let p = c .before .before .before .before .before .before .before .before .before .before .before .before .pre in
+    let z = c .size in
+    let r = c .before .before .before .before .look-at in
+    let q = c .before .before .r in
+    let f = rw (q .given .1) at (r .ensures .1) in
+    omega (arith, z .ensures .0, f .0, p .4, held-len (a .g) (length (a .img .now)) (p .0))
+
+move-cached-requires : tie.Need-move-cached-requires Inv-loop μ-loop
+move-cached-requires c κs =
+    let a = c .before .before .before .before .before .before .before .before .before .before .before .before .before .before .before .args in
+    let p = c .before .before .before .before .before .before .before .before .before .before .before .before .before .before .before .pre in
+    let l = c .before .before .before .before .before .before .before .before .before .before .loop in
+    let r = c .before .before .before .before .before .before .before .look-at in
+    let q = c .before .before .before .before .before .r in
+    let f = rw (q .given .1) at (r .ensures .1) in
+    let g = rw (q .given .1) at (r .ensures .0) in
+    let i = l .inv in (
+      rw (i .4) (p .0),
+      i .8,
+      i .9,
+      p .1,
+      i .7,
+      g,
+      f .2,
+      f .0,
+      omega (arith, p .4, i .4),
+      omega (arith, p .5, i .3, i .4, f .0),
+      far (a .a) (l .at) (a .e) (a .to) (l .wp) (size (a .g .word) (q .given .0 .0)) (i .0) (i .2) (i .3) (f .0) (p .6),
+    )
 
 loop-less-2 : tie.Need-loop-less-2 Inv-loop μ-loop
-loop-less-2 c = omega (arith, c .before .size .ensures, c .before .before .before .before .before .before .before .before .before .before .before .before .loop-test .taken)
+loop-less-2 c =
+    let a = c .before .before .before .before .before .before .before .before .before .before .before .before .before .before .before .before .before .before .before .before .before .args in
+    let p = c .before .before .before .before .before .before .before .before .before .before .before .before .before .before .before .before .before .before .before .before .before .pre in
+    let t = c .before .before .before .before .before .before .before .before .before .before .before .before .before .before .before .loop-test in
+    let z = c .before .before .before .before .before .before .before .before .before .size in
+    omega (arith, t .taken, z .ensures)
 
 loop-again-2 : tie.Need-loop-again-2 Inv-loop μ-loop
-loop-again-2 c = let a = c .before .before .before .before .before .before .before .before .before .before .before .before .before .before .before .args in let p = c .before .before .before .before .before .before .before .before .before .before .before .before .before .before .before .pre in let l = c .before .before .before .before .before .before .before .before .before .before .before .before .before .loop in let M = c .before .before .before .before .before .migrate-item in let f = rw (c .before .before .before .before .before .before .before .before .r .given .1) at (c .before .before .before .before .before .before .before .before .before .before .look-at .ensures .1) in let s = c .before .size .ensures in let i = l .inv in let A = M .ensures .around in let lo = A .low in let hi = A .high in (omega (arith, i, s), omega (arith, i, s, f), omega (arith, i, lo), omega (arith, i, s, f, hi), omega (arith, M .kept, i), kept-trans _ _ _ _ (i .5) (A .kept), rw (s .0) (sym (run-on (a .g) (a .slots) (l .img) (l .held) (l .at) (a .e) (l .wp) (omega (arith, p)) (omega (arith, p, i)) (c .before .before .before .before .before .before .before .before .before .before .look-at .result) (c .before .before .before .before .before .before .before .before .before .before .before .before .loop-test .taken) (c .before .before .before .before .before .before .before .before .before .before .look-at .ensures .0) (c .before .before .before .before .before .before .before .before .r .given .0 .0) (c .before .before .before .before .before .before .before .before .r .given .1) (M .last .0) (M .result) (M .ensures) (c .if1 .taken)) ∙ i .6))
+loop-again-2 c =
+    let a = c .before .before .before .before .before .before .before .before .before .before .before .before .before .before .before .before .before .before .before .before .before .args in
+    let p = c .before .before .before .before .before .before .before .before .before .before .before .before .before .before .before .before .before .before .before .before .before .pre in
+    let l = c .before .before .before .before .before .before .before .before .before .before .before .before .before .before .before .before .loop in
+    let t = c .before .before .before .before .before .before .before .before .before .before .before .before .before .before .before .loop-test in
+    let r = c .before .before .before .before .before .before .before .before .before .before .before .before .before .look-at in
+    let q = c .before .before .before .before .before .before .before .before .before .before .before .r in
+    let z = c .before .before .before .before .before .before .before .before .before .size in
+    let m = c .before .before .before .before .before .move-cached in
+    let s = c .before .s in
+    let f = rw (q .given .1) at (r .ensures .1) in
+    let i = l .inv in
+    let M = m .ensures .to (s .given .0 .0) (a .mem .erased) (s .given .1) in
+    let A = M .around in
+    let e = z .ensures .0 in (
+      omega (arith, i .0),
+      omega (arith, f .0, e),
+      omega (arith, i .2, A .low),
+      omega (arith, i .3, A .high, f .0, e),
+      omega (arith, m .kept, i .4),
+      kept-trans _ _ _ _ (i .5) (A .kept),
+      rw e (sym (run-on (a .g) (a .slots) (l .img) (memOf (l .keys) (l .places) (a .mem .erased)) (l .at) (a .e) (l .wp) (omega (arith, p .0 .low)) (omega (arith, p .4, l .inv .4)) (r .result) (t .taken) (r .ensures .0) (q .given .0 .0) (q .given .1) _ _ M refl) ∙ i .6),
+      rw e (lies-item (a .g) (length (a .img .now)) (p .0) (l .at) (a .e) (i .7) (q .given .0 .0)),
+      m .ensures .long .0,
+      m .ensures .long .1,
+    )
+
+migrate-one-requires : tie.Need-migrate-one-requires Inv-loop μ-loop
+migrate-one-requires c κs =
+    let a = c .before .before .before .before .before .before .before .before .before .before .before .before .before .before .before .before .before .before .before .before .before .args in
+    let p = c .before .before .before .before .before .before .before .before .before .before .before .before .before .before .before .before .before .before .before .before .before .pre in
+    let l = c .before .before .before .before .before .before .before .before .before .before .before .before .before .before .before .before .loop in
+    let r = c .before .before .before .before .before .before .before .before .before .before .before .before .before .look-at in
+    let q = c .before .before .before .before .before .before .before .before .before .before .before .r in
+    let m = c .before .before .before .before .before .move-cached in
+    let s = c .before .enum-told3 in
+    let f = rw (q .given .1) at (r .ensures .1) in
+    let i = l .inv in
+    let n = m .ensures .ask (s .given .1) in (
+      rw (n .0, i .4) (p .0),
+      p .1,
+      n .4,
+      f .2,
+      f .0,
+      rw (n .0) (omega (arith, p .4, i .4)),
+      rw (n .0) (omega (arith, p .5, i .3, i .4, f .0)),
+      far (a .a) (l .at) (a .e) (a .to) (l .wp) (size (a .g .word) (q .given .0 .0)) (i .0) (i .2) (i .3) (f .0) (p .6),
+    )
+
+loop-less-3 : tie.Need-loop-less-3 Inv-loop μ-loop
+loop-less-3 c =
+    let a = c .before .before .before .before .before .before .before .before .before .before .before .before .before .before .before .before .before .before .before .before .before .before .before .before .before .before .before .before .before .args in
+    let p = c .before .before .before .before .before .before .before .before .before .before .before .before .before .before .before .before .before .before .before .before .before .before .before .before .before .before .before .before .before .pre in
+    let t = c .before .before .before .before .before .before .before .before .before .before .before .before .before .before .before .before .before .before .before .before .before .before .before .loop-test in
+    let z = c .before .before .before .before .before .before .before .before .before .before .before .before .before .before .before .before .before .size in
+    omega (arith, t .taken, z .ensures)
+
+loop-again-3 : tie.Need-loop-again-3 Inv-loop μ-loop
+loop-again-3 c =
+    let a = c .before .before .before .before .before .before .before .before .before .before .before .before .before .before .before .before .before .before .before .before .before .before .before .before .before .before .before .before .before .args in
+    let p = c .before .before .before .before .before .before .before .before .before .before .before .before .before .before .before .before .before .before .before .before .before .before .before .before .before .before .before .before .before .pre in
+    let l = c .before .before .before .before .before .before .before .before .before .before .before .before .before .before .before .before .before .before .before .before .before .before .before .before .loop in
+    let t = c .before .before .before .before .before .before .before .before .before .before .before .before .before .before .before .before .before .before .before .before .before .before .before .loop-test in
+    let r = c .before .before .before .before .before .before .before .before .before .before .before .before .before .before .before .before .before .before .before .before .before .look-at in
+    let q = c .before .before .before .before .before .before .before .before .before .before .before .before .before .before .before .before .before .before .before .r in
+    let z = c .before .before .before .before .before .before .before .before .before .before .before .before .before .before .before .before .before .size in
+    let m = c .before .before .before .before .before .before .before .before .before .before .before .before .before .move-cached in
+    let s = c .before .before .before .before .before .before .before .before .before .enum-told3 in
+    let o = c .before .before .before .before .before .before .before .migrate-one in
+    let b = c .before .before .before .before .if1 in
+    let f = rw (q .given .1) at (r .ensures .1) in
+    let i = l .inv in
+    let n = m .ensures .ask (s .given .1) in
+    let I = item-one (a .g) (a .slots) (l .img) (memOf (l .keys) (l .places) (a .mem .erased)) (l .at) (a .e) (q .given .0 .0) (l .wp) _ _ (sym (n .3)) (rw (n .0, n .1, n .2) at (o .ensures)) in
+    let A = I .around in
+    let k = o .ok .1 .1 .0 .1 .1 .0 .1 .1 in
+    let e = z .ensures .0 in (
+      omega (arith, i .0),
+      omega (arith, f .0, e),
+      omega (arith, i .2, A .low),
+      omega (arith, i .3, A .high, f .0, e),
+      omega (arith, o .kept, m .kept, i .4),
+      kept-trans _ _ _ _ (i .5) (kept-apart _ _ _ (A .kept)),
+      rw e (run-apart _ _ _ _ _ _ _ _ (A .kept) ∙ sym (run-on (a .g) (a .slots) (l .img) (memOf (l .keys) (l .places) (a .mem .erased)) (l .at) (a .e) (l .wp) (omega (arith, p .0 .low)) (omega (arith, p .4, l .inv .4)) (r .result) (t .taken) (r .ensures .0) (q .given .0 .0) (q .given .1) _ _ I (b .taken)) ∙ i .6),
+      rw e (lies-item (a .g) (length (a .img .now)) (p .0) (l .at) (a .e) (i .7) (q .given .0 .0)),
+      length-unmapped ℕ (o .result .mem .cache .keys) 32 (k .0 .1 .0 .1),
+      length-unmapped ℕ (o .result .mem .cache .places) 32 (k .1 .0 .1 .0 .1),
+    )
 
 same-length-2 : tie.Need-same-length-2 Inv-loop μ-loop
-same-length-2 c = omega (arith, c .before .before .before .before .before .migrate-item .kept, c .before .before .before .before .before .before .before .before .before .before .before .before .before .loop .inv)
+same-length-2 c =
+    let a = c .before .before .before .before .before .before .before .before .before .before .before .before .before .before .before .before .before .before .before .before .before .before .before .before .before .args in
+    let p = c .before .before .before .before .before .before .before .before .before .before .before .before .before .before .before .before .before .before .before .before .before .before .before .before .before .pre in
+    let l = c .before .before .before .before .before .before .before .before .before .before .before .before .before .before .before .before .before .before .before .before .loop in
+    let m = c .before .before .before .before .before .before .before .before .before .move-cached in
+    let o = c .before .before .before .migrate-one in
+    omega (arith, o .kept, m .kept, l .inv .4)
 
 returns-2 : tie.Need-returns-2 Inv-loop μ-loop
-returns-2 c = let a = c .before .before .before .before .before .before .before .before .before .before .before .before .before .before .before .args in let p = c .before .before .before .before .before .before .before .before .before .before .before .before .before .before .before .pre in let l = c .before .before .before .before .before .before .before .before .before .before .before .before .before .loop in let M = c .before .before .before .before .before .migrate-item in let i = l .inv in record { run = run-bad (a .g) (a .slots) (l .img) (l .held) (l .at) (a .e) (l .wp) (omega (arith, p)) (omega (arith, p, i)) (c .before .before .before .before .before .before .before .before .before .before .look-at .result) (c .before .before .before .before .before .before .before .before .before .before .before .before .loop-test .taken) (c .before .before .before .before .before .before .before .before .before .before .look-at .ensures .0) (c .before .before .before .before .before .before .before .before .r .given .0 .0) (c .before .before .before .before .before .before .before .before .r .given .1) (M .last .0) (M .result) (M .ensures) (c .if1 .left) ∙ i .6; kept = kept-trans _ _ _ _ (i .5) (M .ensures .around .kept) }
+returns-2 c =
+    let a = c .before .before .before .before .before .before .before .before .before .before .before .before .before .before .before .before .before .before .before .before .before .before .before .before .before .args in
+    let p = c .before .before .before .before .before .before .before .before .before .before .before .before .before .before .before .before .before .before .before .before .before .before .before .before .before .pre in
+    let l = c .before .before .before .before .before .before .before .before .before .before .before .before .before .before .before .before .before .before .before .before .loop in
+    let t = c .before .before .before .before .before .before .before .before .before .before .before .before .before .before .before .before .before .before .before .loop-test in
+    let r = c .before .before .before .before .before .before .before .before .before .before .before .before .before .before .before .before .before .look-at in
+    let q = c .before .before .before .before .before .before .before .before .before .before .before .before .before .before .before .r in
+    let m = c .before .before .before .before .before .before .before .before .before .move-cached in
+    let s = c .before .before .before .before .before .enum-told3 in
+    let o = c .before .before .before .migrate-one in
+    let b = c .if1 in
+    let i = l .inv in
+    let n = m .ensures .ask (s .given .1) in
+    let I = item-one (a .g) (a .slots) (l .img) (memOf (l .keys) (l .places) (a .mem .erased)) (l .at) (a .e) (q .given .0 .0) (l .wp) _ _ (sym (n .3)) (rw (n .0, n .1, n .2) at (o .ensures)) in
+    record {
+      run = rw (b .left) (run-bad (a .g) (a .slots) (l .img) (memOf (l .keys) (l .places) (a .mem .erased)) (l .at) (a .e) (l .wp) (omega (arith, p .0 .low)) (omega (arith, p .4, l .inv .4)) (r .result) (t .taken) (r .ensures .0) (q .given .0 .0) (q .given .1) _ _ I (b .left) ∙ i .6);
+      kept = kept-trans _ _ _ _ (i .5) (I .around .kept);
+    }
 
 returns-3 : tie.Need-returns-3 Inv-loop μ-loop
-returns-3 c = let a = c .before .before .before .args in let l = c .before .loop in record { run = run-none (a .g) (a .slots) (l .img) (l .held) (l .at) (a .e) (l .wp) (omega arith) (omega arith) (c .loop-test .left) ∙ l .inv .6; kept = l .inv .5 }
+returns-3 c =
+    let a = c .before .before .before .before .before .before .before .args in
+    let p = c .before .before .before .before .before .before .before .pre in
+    let l = c .before .before .loop in
+    let t = c .before .loop-test in
+    let m = c .all-moved2 in
+    rw (m .ensures) (record {
+      run = run-none (a .g) (a .slots) (l .img) (memOf (l .keys) (l .places) (a .mem .erased)) (l .at) (a .e) (l .wp) (omega (arith, p .0 .low)) (omega (arith, p .4, l .inv .4)) (t .left) ∙ l .inv .6;
+      kept = l .inv .5;
+    })
 
 pub migrate-all-spec : {M : Type 1} → statement M
 migrate-all-spec =
     tie.close (tie.spec
-    Inv-loop μ-loop loop-holds (λ c κs. search needs) (λ c. search needs) (λ c. search needs) returns (λ c. search needs) add-at
-    (λ c. search needs) loop-again (λ c. search needs) migrate-item-requires size-requires add-at-2 loop-less-2 loop-again-2 same-length-2
-    returns-2 (λ c. search needs) returns-3)
+    Inv-loop μ-loop loop-holds (λ c κs. search needs) (λ c. search needs) (λ c κs. search needs) (λ c. search needs) returns
+    (λ c. search needs) add-at loop-less loop-again (λ c. search needs) size-requires add-next move-cached-requires
+    (λ c. search needs) loop-less-2 loop-again-2 (λ c. search needs) migrate-one-requires loop-less-3 loop-again-3 same-length-2
+    returns-2 (λ c κs. search needs) (λ c. search needs) returns-3)

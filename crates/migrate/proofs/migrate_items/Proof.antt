@@ -1,11 +1,13 @@
 use Rattle.migrate.proofs.Laws.{pages-apart, migrate-ok, migrate-bad}
+use Rattle.migrate.proofs.Cached.{page-lies}
+use lib.ListN.{length}
 use native.Mathlib.Omega.{arith}
 use borrow.Author.Needs.{needs}
 use Rattle.migrate.proofs.migrate_items.Statement.{statement}
 use Rattle.migrate.proofs.migrate_items.Tie as tie
 
 migrate-all-requires : tie.Need-migrate-all-requires
-migrate-all-requires c κs = let a = c .before .before .before .before .before .args in let p = c .before .before .before .before .before .pre in let A = pages-apart (a .g .page) (a .g .word) (a .source) (a .target) (omega arith) (p .4) in (p .0, p .1, omega arith, omega arith, omega arith, rw (c .before .before .before .data-at .ensures .0, c .before .before .end-at .ensures .0, c .before .data-at2 .ensures .0) A)
+migrate-all-requires c κs = let a = c .before .before .before .before .before .args in let p = c .before .before .before .before .before .pre in let A = pages-apart (a .g .page) (a .g .word) (a .source) (a .target) (omega arith) (p .4) in (p .0, p .1, page-lies (a .g) (length (a .img .now)) (p .0) (a .source) (p .2) _ _ (c .before .before .before .data-at .ensures .0) (c .before .before .end-at .ensures .0), omega arith, omega arith, omega arith, rw (c .before .before .before .data-at .ensures .0, c .before .before .end-at .ensures .0, c .before .data-at2 .ensures .0) A)
 
 add-erased : tie.Need-add-erased
 add-erased c = omega (arith, c .before .before .before .before .before .before .before .before .before .before .migrate-all .ensures .kept .erased, c .before .before .before .before .before .before .before .before .before .before .before .before .before .before .before .before .pre)
