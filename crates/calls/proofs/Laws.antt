@@ -1,4 +1,4 @@
--- Fetch and a walk's start, as the code answers them.
+-- The jobs, as the code runs and answers them.
 use mathlib.Core.Path.{_≡_, refl, ap, sym, _∙_}
 use Prim.Native.Nat.{ℕ, _+_, _-_, _≤_, _<_}
 use native.Mathlib.Omega.{arith}
@@ -8,12 +8,12 @@ use mathlib.Core.List.{List}
 use borrow.Author.Tests.{ne-eqb, eq-eqb, lt-ltb, le-ltb}
 use Rattle.rules.specs.declared.{Geo.Geo, Answer.Answer, Answer.the-variants.Done, Answer.the-variants.Value, Answer.the-variants.Corrupted}
 use Rattle.rules.specs.Bytes.{pick}
-use Rattle.rules.specs.Cache.{lookup}
+use Rattle.rules.specs.Cache.{Cache, lookup}
 use Rattle.rules.specs.Runs.{St, end, final, cleared}
-use Rattle.rules.specs.Fetch.{Found, corrupt, missing, found, answerOf, noteFound, fullFetch, onHit, newest, hit, fetchIn, runFetch}
-use Rattle.rules.specs.Pages.{anyCorrupted}
-use Rattle.rules.specs.Store.{looked, autoRepair, fetchBy, fetch}
-use Rattle.rules.specs.Walk.{walkFirst, runStart}
+use Rattle.rules.specs.Fetch.{Found, corrupt, missing, found, answerOf, noteFound, fullFetch, onHit, newest, hit, fetchIn, runFetch, servedBy}
+use Rattle.rules.specs.Store.{autoRepair, fetchBy, fetch, store}
+use Rattle.rules.specs.Remove.{remove}
+use Rattle.rules.specs.Walk.{walkFirst, runStart, walkStart}
 use Rattle.laws.specs.Plain.{FoundPlain, newest-plain, hit-plain}
 use Rattle.items.specs.declared.{Spot.Spot, Spot.the-variants.Missing, Spot.the-variants.At}
 use Rattle.items.specs.Code.{told}
@@ -23,7 +23,8 @@ use Rattle.fetch.specs.Code.{stOf, Kept, Told, gotOf, toldGot}
 use Rattle.fetch.proofs.Laws.{past-refl}
 use Rattle.store.specs.declared.{Run.Run}
 use Rattle.store.specs.Code.{RunOk}
-use Rattle.calls.specs.Code.{toldAnswer}
+use Rattle.calls.specs.declared.{Job.Job, Job.the-variants.Fetch, Job.the-variants.Store, Job.the-variants.Remove, Job.the-variants.Start}
+use Rattle.calls.specs.Code.{toldAnswer, runOf, servedOf, callOf}
 
 -- what is found is answered by its place and data length
 pub answer-is : (x : Found) → FoundPlain x → toldAnswer (told x) ≡ answerOf x
@@ -61,43 +62,72 @@ module _ (G : Geo) (k : ℕ) where
       let q : a ≡ answerOf (g .res) = ha ∙ ap toldAnswer s ∙ answer-is (g .res) (fetch-plain (stOf n img mem)) in
       record { is = ap (λ (x : Answer). end x (stOf n img (f .mem))) q ∙ ap (λ (x : St). end (answerOf (g .res)) x) t; past = hk .past; erased = omega (arith, hk .erased) }
 
-  -- ---- a fetch, by what the cache has
+-- ---- a job's run, from that of its kind, which erases fewer pages
 
-  by-none : (s : St) (x : Found) → Missing ≡ told x → fetchBy G k s x ≡ autoRepair G (runFetch G k) s
-  by-none s corrupt q = refl
-  by-none s missing q = refl
-  by-none s (found e) q = let z : _≡_ {A = ℕ} 0 1 = cc in absurd (omega arith)
+module _ (G : Geo) (n b : ℕ) (j : Job) (v img img′ : List ℕ) (mem : Mem) (r : Run) where
+  pub as-job : (job : Job) → job ≡ j → b ≤ G .pages → RunOk n b (runOf G j v) img img′ mem r → RunOk n (G .pages) (runOf G job v) img img′ mem r
+  as-job job e h R = rw e (record { is = R .is; past = R .past; erased = omega (arith, R .erased) })
 
-  by-at : (s : St) (x : Found) (p l : ℕ) → FoundPlain x → At p l ≡ told x → end (Value (p + 12) (l - 4)) s ≡ final (fetchBy G k s x)
-  by-at s corrupt p l h q = let z : _≡_ {A = ℕ} 0 1 = cc in absurd (omega arith)
-  by-at s missing p l h q = let z : _≡_ {A = ℕ} 0 1 = cc in absurd (omega arith)
-  by-at s (found e) p l h q = rw (h .0, h .1) (ap (λ (x : Spot). end (toldAnswer x) s) q)
-
-  module _ (n b : ℕ) (img : List ℕ) (mem : Mem) (a : ℕ) (ha : a ≡ lookup k (pointers n (mem .cache))) where
-    pub fetch-none : (img′ : List ℕ) (r : Run) → a ≡ 0 → RunOk n b (autoRepair G (runFetch G k)) img img′ mem r → RunOk n b (fetch G k) img img′ mem r
-    unfolding fetch
-    fetch-none img′ r z R = record { is = rw (← ha, eq-eqb a 0 z) (R .is); past = R .past; erased = R .erased }
-
-    pub fetch-miss : (img′ : List ℕ) (r : Run) → (a ≡ 0 → ⊥) → Missing ≡ told (hit G img k a) → RunOk n b (autoRepair G (runFetch G k)) img img′ mem r → RunOk n b (fetch G k) img img′ mem r
-    unfolding fetch
-    fetch-miss img′ r z q R = record { is = rw (← ha, ne-eqb a 0 z) (R .is ∙ ap final (sym (by-none (stOf n img mem) (hit G img k a) q))); past = R .past; erased = R .erased }
-
-    pub fetch-hit : (p l : ℕ) → (a ≡ 0 → ⊥) → At p l ≡ told (hit G img k a) → RunOk n b (fetch G k) img img mem (record { mem = mem; answer = Value (p + 12) (l - 4) })
-    unfolding fetch
-    fetch-hit p l z q = record {
-      is = rw (← ha, ne-eqb a 0 z) (by-at (stOf n img mem) (hit G img k a) p l (hit-plain G img k a) q);
-      past = past-refl n (mem .cache);
-      erased = omega arith;
-    }
-
--- ---- a walk's start
-
-module _ (G : Geo) (n : ℕ) (img : List ℕ) (mem : Mem) (t : Bool) (f : ℕ) where
+module _ (G : Geo) (n : ℕ) (img : List ℕ) (mem : Mem) (f : ℕ) (hf : f ≡ walkFirst G img) where
   abbrev StartOk : Answer → Type 0
-  StartOk a = RunOk n 0 (looked G (runStart G)) img img mem (record { mem = mem; answer = a })
+  StartOk a = RunOk n 0 (runStart G) img img mem (record { mem = mem; answer = a })
 
-  pub start-done : t ≡ anyCorrupted G img → t ≡ false → f ≡ walkFirst G img → f < G .pages → StartOk Done
-  start-done ht e hf h = record { is = rw (← ht, e, ← hf, lt-ltb f (G .pages) h); past = past-refl n (mem .cache); erased = omega arith }
+  pub start-done : f < G .pages → StartOk Done
+  start-done h = record { is = rw (← hf, lt-ltb f (G .pages) h); past = past-refl n (mem .cache); erased = omega arith }
 
-  pub start-bad : t ≡ anyCorrupted G img → t ≡ false → f ≡ walkFirst G img → G .pages ≤ f → StartOk Corrupted
-  start-bad ht e hf h = record { is = rw (← ht, e, ← hf, le-ltb f (G .pages) h); past = past-refl n (mem .cache); erased = omega arith }
+  pub start-bad : G .pages ≤ f → StartOk Corrupted
+  start-bad h = record { is = rw (← hf, le-ltb f (G .pages) h); past = past-refl n (mem .cache); erased = omega arith }
+
+-- ---- what the cache alone finds
+
+module _ (G : Geo) (img : List ℕ) (c : Cache) where
+  module _ (job : Job) (k : ℕ) (e : job ≡ Fetch k) (a : ℕ) (ha : a ≡ lookup k c) where
+    pub served-none : a ≡ 0 → Missing ≡ told (servedOf G job img c)
+    served-none z = rw (e, ← ha, eq-eqb a 0 z)
+
+    pub served-hit : (x : Spot) → (a ≡ 0 → ⊥) → x ≡ told (hit G img k a) → x ≡ told (servedOf G job img c)
+    served-hit x z q = rw (e, ← ha, ne-eqb a 0 z) q
+
+served-plain : (G : Geo) (k : ℕ) (img : List ℕ) (c : Cache) → FoundPlain (servedBy G k (record { img = img; cache = c; erased = 0 }))
+served-plain G k img c = go (eqb (lookup k c) 0)
+  where
+    go : (b : Bool) → FoundPlain (pick b missing (hit G img k (lookup k c)))
+    go true = tt
+    go false = hit-plain G img k (lookup k c)
+
+-- ---- a call, by that
+
+module _ (G : Geo) (k : ℕ) (s : St) where
+  by-none : (x : Found) → Missing ≡ told x → fetchBy G k s x ≡ autoRepair G (runFetch G k) s
+  by-none corrupt q = refl
+  by-none missing q = refl
+  by-none (found e) q = let z : _≡_ {A = ℕ} 0 1 = cc in absurd (omega arith)
+
+  by-at : (x : Found) (p l : ℕ) → FoundPlain x → At p l ≡ told x → end (Value (p + 12) (l - 4)) s ≡ final (fetchBy G k s x)
+  by-at corrupt p l h q = let z : _≡_ {A = ℕ} 0 1 = cc in absurd (omega arith)
+  by-at missing p l h q = let z : _≡_ {A = ℕ} 0 1 = cc in absurd (omega arith)
+  by-at (found e) p l h q = rw (h .0, h .1) (ap (λ (x : Spot). end (toldAnswer x) s) q)
+
+module _ (G : Geo) (v : List ℕ) (s : St) where
+  runs : (job : Job) → Missing ≡ told (servedOf G job (s .img) (s .cache)) → callOf G job v s ≡ autoRepair G (runOf G job v) s
+  unfolding fetch store remove walkStart
+  runs (Fetch k) q = by-none G k s (servedBy G k s) q
+  runs (Store k) q = refl
+  runs (Remove t) q = refl
+  runs Start q = refl
+
+  serves : (job : Job) (p l : ℕ) → At p l ≡ told (servedOf G job (s .img) (s .cache)) → end (Value (p + 12) (l - 4)) s ≡ final (callOf G job v s)
+  unfolding fetch
+  serves (Fetch k) p l q = by-at G k s (servedBy G k s) p l (served-plain G k (s .img) (s .cache)) q
+  serves (Store k) p l q = let z : _≡_ {A = ℕ} 0 1 = cc in absurd (omega arith)
+  serves (Remove t) p l q = let z : _≡_ {A = ℕ} 0 1 = cc in absurd (omega arith)
+  serves Start p l q = let z : _≡_ {A = ℕ} 0 1 = cc in absurd (omega arith)
+
+module _ (G : Geo) (n b : ℕ) (job : Job) (v img : List ℕ) (mem : Mem) where
+  pub call-runs : (img′ : List ℕ) (r : Run) → Missing ≡ told (servedOf G job img (pointers n (mem .cache)))
+      → RunOk n b (autoRepair G (runOf G job v)) img img′ mem r → RunOk n b (callOf G job v) img img′ mem r
+  call-runs img′ r q R = record { is = R .is ∙ ap final (sym (runs G v (stOf n img mem) job q)); past = R .past; erased = R .erased }
+
+  pub call-served : (p l : ℕ) → At p l ≡ told (servedOf G job img (pointers n (mem .cache)))
+      → RunOk n b (callOf G job v) img img mem (record { mem = mem; answer = Value (p + 12) (l - 4) })
+  call-served p l q = record { is = serves G v (stOf n img mem) job p l q; past = past-refl n (mem .cache); erased = omega arith }

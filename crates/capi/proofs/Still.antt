@@ -22,7 +22,8 @@ use Rattle.items.specs.Code.{told}
 use Rattle.cache.specs.Code.{pointers, index}
 use Rattle.cache.proofs.Pointers.{Sized, seek-hit, seek-on, seek-end, none, find-hit}
 use Rattle.fetch.specs.declared.{Mem.Mem}
-use Rattle.calls.proofs.Laws.{fetch-hit}
+use Rattle.calls.specs.declared.{Job.the-variants.Fetch}
+use Rattle.calls.proofs.Laws.{served-hit, call-served}
 use Rattle.map.specs.Code.{answered, PlainOk}
 use Rattle.map.proofs.Laws.{refused, ran}
 use Rattle.capi.specs.Code.{Fits, entriesOf, lentCache, cacheWords, outWords, border, StillOk}
@@ -85,7 +86,8 @@ module _ (E m k : ℕ) (img ws : List ℕ) (no : Answer) (d : ℕ) (hno : no ≡
   unfolding called
   still-hit z h G g a p l ha n q =
       let mem : Mem = record { cache = lentCache ws; erased = 0 } in
-      let R = fetch-hit G k m 0 img mem a ha p l n q in
+      let s = served-hit G img (pointers m (lentCache ws)) (Fetch k) k refl a ha (At p l) n q in
+      let R = call-served G m 0 (Fetch k) [] img mem p l s in
       let t = ran E m 0 img no d hno hd (λ G s. fetch G k s) (λ G o. noCursor) noCursor z (lentCache ws) 0 G g img (record { mem = mem; answer = Value (p + 12) (l - 4) }) R noCursor refl in
       record { is = λ x. rw (lent-is ws h) at t }
 

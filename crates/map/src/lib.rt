@@ -4,9 +4,11 @@ ghost use lib.ListN.{length};
 ghost use Rattle.rules.specs.Held.{Held};
 ghost use Rattle.rules.specs.Answers.{refusal};
 ghost use Rattle.rules.specs.Fetch.{view};
-ghost use Rattle.rules.specs.Calls.{called, fetchItem, storeItem, removeItem, removeAllItems, eraseAllPages, fetchAllItems};
+ghost use Rattle.rules.specs.Calls.{plainly, called, fetchItem, storeItem, removeItem, removeAllItems, eraseAllPages, fetchAllItems};
+ghost use Rattle.calls.specs.Code.{callOf};
 ghost use Rattle.map.specs.Code.{lentOf, toldOf, toldRun, PlainOk, startedOf, firstCursor, HasFirst, StepOk, steppedBy};
 use cache::Cache;
+use calls::Job;
 use fetch::Mem;
 use remove::Which;
 use rules::Answer;
@@ -69,11 +71,12 @@ fn hand_back(run: Run) -> Told
     }
 }
 
-// The newest value of a key; a damaged image is repaired once.
-pub fn fetch_item(img: &mut [u8], page: usize, cache: Cache, size: usize, key: u32) -> Told
-    ensures { λ r. ⌜ toldOf (now (img .exit)) r ≡ called 4 page size (fetchItem key) (lentOf (now (img .entry)) cache) ⌝ }
+// A job with a cache, behind its refusals.
+fn behind(img: &mut [u8], page: usize, cache: Cache, size: usize, job: Job, value: &[u8]) -> Told
+    ensures { λ r. ⌜ toldOf (now (img .exit)) r
+        ≡ plainly 4 page size (length (now (value .entry))) (lentOf (now (img .entry)) cache) (λ G s. callOf G job (now (value .entry)) s) ⌝ }
 {
-    let no = answer::refusal(4, page, img.len(), size, 0);
+    let no = answer::refusal(4, page, img.len(), size, value.len());
     if answer::number(no) != 0 {
         return Told {
             answer: no,
@@ -83,7 +86,14 @@ pub fn fetch_item(img: &mut [u8], page: usize, cache: Cache, size: usize, key: u
     }
     let g = answer::geometry(4, page, img.len());
     let mem = Mem { cache, erased: 0 };
-    hand_back(calls::fetch(img, g, mem, size, key))
+    hand_back(calls::call(img, g, mem, size, job, value))
+}
+
+// The newest value of a key; a damaged image is repaired once.
+pub fn fetch_item(img: &mut [u8], page: usize, cache: Cache, size: usize, key: u32) -> Told
+    ensures { λ r. ⌜ toldOf (now (img .exit)) r ≡ called 4 page size (fetchItem key) (lentOf (now (img .entry)) cache) ⌝ }
+{
+    behind(img, page, cache, size, Job::Fetch(key), b"")
 }
 
 // The newest value of a key, without a cache: a damaged image answers Corrupted, and nothing changes.
@@ -109,51 +119,21 @@ pub fn store_item(
 ) -> Told
     ensures { λ r. ⌜ toldOf (now (img .exit)) r ≡ called 4 page size (storeItem key (now (value .entry))) (lentOf (now (img .entry)) cache) ⌝ }
 {
-    let no = answer::refusal(4, page, img.len(), size, value.len());
-    if answer::number(no) != 0 {
-        return Told {
-            answer: no,
-            cache,
-            erased: 0,
-        };
-    }
-    let g = answer::geometry(4, page, img.len());
-    let mem = Mem { cache, erased: 0 };
-    hand_back(calls::store(img, g, mem, size, key, value))
+    behind(img, page, cache, size, Job::Store(key), value)
 }
 
 // A key is removed, with all its values.
 pub fn remove_item(img: &mut [u8], page: usize, cache: Cache, size: usize, key: u32) -> Told
     ensures { λ r. ⌜ toldOf (now (img .exit)) r ≡ called 4 page size (removeItem key) (lentOf (now (img .entry)) cache) ⌝ }
 {
-    let no = answer::refusal(4, page, img.len(), size, 0);
-    if answer::number(no) != 0 {
-        return Told {
-            answer: no,
-            cache,
-            erased: 0,
-        };
-    }
-    let g = answer::geometry(4, page, img.len());
-    let mem = Mem { cache, erased: 0 };
-    hand_back(calls::remove(img, g, mem, size, Which::Only(key)))
+    behind(img, page, cache, size, Job::Remove(Which::Only(key)), b"")
 }
 
 // All keys are removed.
 pub fn remove_all_items(img: &mut [u8], page: usize, cache: Cache, size: usize) -> Told
     ensures { λ r. ⌜ toldOf (now (img .exit)) r ≡ called 4 page size removeAllItems (lentOf (now (img .entry)) cache) ⌝ }
 {
-    let no = answer::refusal(4, page, img.len(), size, 0);
-    if answer::number(no) != 0 {
-        return Told {
-            answer: no,
-            cache,
-            erased: 0,
-        };
-    }
-    let g = answer::geometry(4, page, img.len());
-    let mem = Mem { cache, erased: 0 };
-    hand_back(calls::remove(img, g, mem, size, Which::Every))
+    behind(img, page, cache, size, Job::Remove(Which::Every), b"")
 }
 
 // All pages are erased.
@@ -213,7 +193,7 @@ pub fn fetch_all_items(img: &mut [u8], page: usize, cache: Cache, size: usize) -
     }
     let g = answer::geometry(4, page, img.len());
     let mem = Mem { cache, erased: 0 };
-    let run = calls::walk_start(img, g, mem, size);
+    let run = calls::call(img, g, mem, size, Job::Start, b"");
     let m = run.mem;
     let c = m.cache;
     let a = run.answer;

@@ -30,23 +30,23 @@ geometry-requires c κs =
     let d = c .before .number in
     page-some 4 (a .page) (a .size) 0 (a .img .now) (inl refl) (no .result) (d .result) (no .ensures) (d .ensures) (c .if1 .left)
 
-walk-start-requires : tie.Need-walk-start-requires
-walk-start-requires c κs =
-    let a = c .before .before .before .before .before .before .args in
-    let no = c .before .before .before .before .refusal in
-    let d = c .before .before .before .number in
-    let g = c .before .geometry in
-    let z = c .before .before .if1 .left in
-    (held 4 (a .page) (a .size) 0 (a .img .now) (inl refl) (no .result) (d .result) (no .ensures) (d .ensures) z (g .result) (g .ensures), fits 4 (a .page) (a .size) 0 (a .img .now) (inl refl) (no .result) (d .result) (no .ensures) (d .ensures) z .cached, omega arith)
+call-requires : tie.Need-call-requires
+call-requires c κs =
+    let a = c .before .before .before .before .before .before .before .args in
+    let no = c .before .before .before .before .before .refusal in
+    let d = c .before .before .before .before .number in
+    let g = c .before .before .geometry in
+    let z = c .before .before .before .if1 .left in
+    (held 4 (a .page) (a .size) 0 (a .img .now) (inl refl) (no .result) (d .result) (no .ensures) (d .ensures) z (g .result) (g .ensures), fits 4 (a .page) (a .size) 0 (a .img .now) (inl refl) (no .result) (d .result) (no .ensures) (d .ensures) z .cached, omega arith, omega arith)
 
 first-cursor-requires : tie.Need-first-cursor-requires
 first-cursor-requires c κs =
-    let a = c .before .before .before .before .before .before .before .before .before .before .before .before .args in
-    let no = c .before .before .before .before .before .before .before .before .before .before .refusal in
-    let d = c .before .before .before .before .before .before .before .before .before .number in
-    let g = c .before .before .before .before .before .before .before .geometry in
-    let r = c .before .before .before .before .before .walk-start in
-    let z = c .before .before .before .before .before .before .before .before .if1 .left in
+    let a = c .before .before .before .before .before .before .before .before .before .before .before .before .before .args in
+    let no = c .before .before .before .before .before .before .before .before .before .before .before .refusal in
+    let d = c .before .before .before .before .before .before .before .before .before .before .number in
+    let g = c .before .before .before .before .before .before .before .before .geometry in
+    let r = c .before .before .before .before .before .call in
+    let z = c .before .before .before .before .before .before .before .before .before .if1 .left in
     let h = held 4 (a .page) (a .size) 0 (a .img .now) (inl refl) (no .result) (d .result) (no .ensures) (d .ensures) z (g .result) (g .ensures) in
     let e : length (r .last .0) ≡ length (a .img .now) = search needs in
     (subst (λ n. Held (g .result) n) (sym e) h, has-first (g .result) (a .size) _ (a .img .now) (r .last .0) _ (r .result) (r .ensures))
@@ -54,15 +54,15 @@ first-cursor-requires c κs =
 returns-2 : tie.Need-returns-2
 unfolding called
 returns-2 c =
-    let a = c .before .before .before .before .before .before .before .before .before .before .before .before .before .args in
-    let no = c .before .before .before .before .before .before .before .before .before .before .before .refusal in
-    let d = c .before .before .before .before .before .before .before .before .before .before .number in
-    let g = c .before .before .before .before .before .before .before .before .geometry in
-    let r = c .before .before .before .before .before .before .walk-start in
+    let a = c .before .before .before .before .before .before .before .before .before .before .before .before .before .before .args in
+    let no = c .before .before .before .before .before .before .before .before .before .before .before .before .refusal in
+    let d = c .before .before .before .before .before .before .before .before .before .before .before .number in
+    let g = c .before .before .before .before .before .before .before .before .before .geometry in
+    let r = c .before .before .before .before .before .before .call in
     let at = c .first-cursor .ensures ∙ ap (λ (x : End). firstCursor (g .result) (x .ans) (x .st .img)) (r .ensures .is) in
-    ran (a .page) (a .size) 0 (a .img .now) (no .result) (d .result) (no .ensures) (d .ensures) (λ G s. walkStart G s) startCursor noCursor (c .before .before .before .before .before .before .before .before .before .if1 .left) (a .cache) _ (g .result) (g .ensures) (r .last .0) (r .result) (r .ensures) (c .first-cursor .result) at
+    ran (a .page) (a .size) 0 (a .img .now) (no .result) (d .result) (no .ensures) (d .ensures) (λ G s. walkStart G s) startCursor noCursor (c .before .before .before .before .before .before .before .before .before .before .if1 .left) (a .cache) _ (g .result) (g .ensures) (r .last .0) (r .result) (r .ensures) (c .first-cursor .result) at
 
 pub fetch-all-items-spec : {M : Type 1} → statement M
 fetch-all-items-spec =
     tie.close (tie.spec
-    (λ c κs. search needs) (λ c κs. search needs) returns geometry-requires walk-start-requires first-cursor-requires (λ c. search needs) returns-2)
+    (λ c κs. search needs) (λ c κs. search needs) returns geometry-requires (λ c. search needs) call-requires first-cursor-requires (λ c. search needs) returns-2)

@@ -1,53 +1,14 @@
--- `map::fetch_item` meets its contract: it is refused, or it runs.
-use Rattle.rules.specs.Store.{fetch}
-use mathlib.Core.Path.{refl}
-use native.Mathlib.Omega.{arith}
-use Rattle.rules.specs.Calls.{noCursor, called}
-use Rattle.cache.specs.Code.{pointers}
-use mathlib.Core.Logic.{inl}
-use Rattle.laws.specs.Geometry.{fits, page-some, held}
-use Rattle.map.proofs.Laws.{refused, ran}
+-- `map::fetch_item` meets its contract: a fetch behind its refusals.
+use Rattle.rules.specs.Calls.{called}
 use borrow.Author.Needs.{needs}
 use Rattle.map.proofs.fetch_item.Statement.{statement}
 use Rattle.map.proofs.fetch_item.Tie as tie
 
 returns : tie.Need-returns
 unfolding called
-returns c =
-    let a = c .before .before .before .before .args in
-    let no = c .before .before .refusal in
-    let d = c .before .number in
-    refused (a .page) (a .size) 0 (a .img .now) (no .result) (d .result) (no .ensures) (d .ensures) (λ G s. fetch G (a .key) s) (λ G o. noCursor) noCursor (c .if1 .taken) (pointers 32 (a .cache))
-
-geometry-requires : tie.Need-geometry-requires
-geometry-requires c κs =
-    let a = c .before .before .before .before .args in
-    let no = c .before .before .refusal in
-    let d = c .before .number in
-    page-some 4 (a .page) (a .size) 0 (a .img .now) (inl refl) (no .result) (d .result) (no .ensures) (d .ensures) (c .if1 .left)
-
-fetch-requires : tie.Need-fetch-requires
-fetch-requires c κs =
-    let a = c .before .before .before .before .before .before .args in
-    let no = c .before .before .before .before .refusal in
-    let d = c .before .before .before .number in
-    let z = c .before .before .if1 .left in
-    let F = fits 4 (a .page) (a .size) 0 (a .img .now) (inl refl) (no .result) (d .result) (no .ensures) (d .ensures) z in
-    (held 4 (a .page) (a .size) 0 (a .img .now) (inl refl) (no .result) (d .result) (no .ensures) (d .ensures) z (c .before .geometry .result) (c .before .geometry .ensures), F .cached, omega arith)
-
-returns-2 : tie.Need-returns-2
-unfolding called
-returns-2 c =
-    let a = c .before .before .before .before .before .before .before .before .before .before .args in
-    let no = c .before .before .before .before .before .before .before .before .refusal in
-    let d = c .before .before .before .before .before .before .before .number in
-    let g = c .before .before .before .before .before .geometry in
-    let F = c .before .before .before .fetch in
-    rw (c .hand-back .ensures)
-    (ran (a .page) (a .size) 0 (a .img .now) (no .result) (d .result) (no .ensures) (d .ensures) (λ G s. fetch G (a .key) s) (λ G o. noCursor) noCursor (c .before .before .before .before .before .before .if1 .left)
-    (a .cache) _ (g .result) (g .ensures) (F .last .0) (F .result) (F .ensures) noCursor refl)
+returns c = c .before .before .behind .ensures
 
 pub fetch-item-spec : {M : Type 1} → statement M
 fetch-item-spec =
     tie.close (tie.spec
-    (λ c κs. search needs) (λ c κs. search needs) returns geometry-requires fetch-requires (λ c κs. search needs) (λ c. search needs) returns-2)
+    (λ c. search needs) (λ c κs. search needs) (λ c. search needs) returns)
