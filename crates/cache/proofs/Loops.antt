@@ -1,38 +1,58 @@
--- The loops that move an array's elements: each lays one list over the front of another, an element a turn.
+-- The loops that move an array's elements, one in a turn.
 use mathlib.Core.Path.{_≡_, ap, sym, _∙_}
-use Prim.Native.Nat.{ℕ, suc, _+_, _-_, _≤_, _<_}
+use Prim.Native.Nat.{ℕ, zero, suc, _+_, _-_, _≤_, _<_}
 use native.Mathlib.Omega.{arith}
 use native.Mathlib.Numerals.{add-one}
-use mathlib.Core.List.{List, _∷_, _++_}
-use lib.ListN.{length, getD, take, drop, set, take-append-drop}
-use lib.Seq.{drop-cons, set-at, getD-at, length-take-le, take-suc, append-snoc, getD-append-add, getD-drop, take-at}
-use Rattle.cache.proofs.Cut.{cut, length-cut}
+use mathlib.Core.List.{List, [], _∷_, _++_}
+use lib.ListN.{length, getD, take, drop, set, take-append-drop, List·getD-append}
+use lib.Seq.{drop-cons, set-at, length-take-le, take-suc, append-snoc, getD-append-add, getD-drop, getD-take, take-at}
+use Rattle.cache.proofs.Cut.{cut, length-cut, drop-cut}
 
--- the first k elements of s over the front of l
-module _ (s l : List ℕ) (k : ℕ) (h : k < length l) (g : k < length s) where
-  long : length (take k s) ≡ k
-  long = length-take-le k s (omega arith)
+-- the first k elements of s over the front of l: one element more
+pub over-turn : (s l b : List ℕ) (k : ℕ) → b ≡ take k s ++ drop k l → k < length l → k < length s
+    → set b k (getD s k 0) ≡ take (k + 1) s ++ drop (k + 1) l
+over-turn s l b k e h g =
+    let long : length (take k s) ≡ k = length-take-le k s (omega arith) in
+    rw (e, add-one, take-suc s k 0 g, drop-cons l k 0 h, set-at (take k s) (getD l k 0) (drop (suc k) l) (getD s k 0) k long)
+    (sym (append-snoc (take k s) (getD s k 0) (drop (suc k) l)))
 
-  -- one element more
-  over-turn : set (take k s ++ drop k l) k (getD s k 0) ≡ take (k + 1) s ++ drop (k + 1) l
-  over-turn =
-      rw (add-one, take-suc s k 0 g, drop-cons l k 0 h, set-at (take k s) (getD l k 0) (drop (suc k) l) (getD s k 0) k long)
-      (sym (append-snoc (take k s) (getD s k 0) (drop (suc k) l)))
+-- ---- an element to the front: those before j move one further, the last of them first
 
-  -- what it replaces
-  over-next : getD (take k s ++ drop k l) k 0 ≡ getD l k 0
-  over-next = rw (drop-cons l k 0 h) (getD-at (take k s) (getD l k 0) (drop (suc k) l) 0 k long)
+-- up to element k the array is as it was, and after it lie the elements from k on, without that at j
+abbrev pub Moved : List ℕ → ℕ → ℕ → List ℕ → Type 0
+Moved l j k b = b ≡ take (suc k) l ++ drop k (cut l j)
 
--- ---- an element to the front, with the one that it replaced in hand
+module _ (l : List ℕ) (j : ℕ) (f : j < length l) where
+  pub shift-start : Moved l j j l
+  shift-start = sym (ap (λ (t : List ℕ). take (suc j) l ++ t) (drop-cut l j j (omega arith)) ∙ take-append-drop (suc j) l)
 
-module _ (l b : List ℕ) (x k : ℕ) (e : b ≡ take k (x ∷ l) ++ drop k l) where
-  pub shift-again : (carry : ℕ) → carry ≡ getD (x ∷ l) k 0 → k < length l
-      → (set b k carry ≡ take (k + 1) (x ∷ l) ++ drop (k + 1) l) × (getD b k 0 ≡ getD (x ∷ l) (k + 1) 0)
-  shift-again carry f h =
-      (rw (e, f) (over-turn (x ∷ l) l k h (omega arith)), rw (e, add-one k) (over-next (x ∷ l) l k h (omega arith)))
+  module _ (b : List ℕ) (k : ℕ) (e : Moved l j k b) (g : 0 < k) (h : k ≤ j) where
+    before-cut : getD (cut l j) (k - 1) 0 ≡ getD l (k - 1) 0
+    before-cut =
+        List·getD-append (take j l) (drop (suc j) l) 0 (k - 1) (omega (arith, length-take-le j l (omega arith)))
+        ∙ getD-take j l (k - 1) 0 (omega arith)
 
-  pub shift-end : (j : ℕ) → k ≤ j + 1 → j < k → b ≡ x ∷ cut l j
-  shift-end j g h = let same : k ≡ suc j = omega arith in e ∙ rw same
+    before-here : getD b (k - 1) 0 ≡ getD l (k - 1) 0
+    before-here =
+        ap (λ (t : List ℕ). getD t (k - 1) 0) e
+        ∙ List·getD-append (take (suc k) l) (drop k (cut l j)) 0 (k - 1) (omega (arith, length-take-le (suc k) l (omega arith)))
+        ∙ getD-take (suc k) l (k - 1) 0 (omega arith)
+
+    next-cut : drop (k - 1) (cut l j) ≡ getD l (k - 1) 0 ∷ drop k (cut l j)
+    next-cut =
+        let all : suc (k - 1) ≡ k = omega arith in
+        drop-cons (cut l j) (k - 1) 0 (omega (arith, length-cut l j f)) ∙ rw (before-cut, all)
+
+    pub shift-again : Moved l j (k - 1) (set b k (getD b (k - 1) 0))
+    shift-again =
+        let all : suc (k - 1) ≡ k = omega arith in
+        rw (before-here, e, all, next-cut, take-suc l k 0 (omega arith), append-snoc (take k l) (getD l k 0) (drop k (cut l j)))
+        (set-at (take k l) (getD l k 0) (drop k (cut l j)) (getD l (k - 1) 0) k (length-take-le k l (omega arith)))
+
+pub shift-end : (l b : List ℕ) (j k x : ℕ) → 0 < length l → k ≤ 0 → Moved l j k b → set b 0 x ≡ x ∷ cut l j
+shift-end [] b j k x f z e = absurd (omega arith)
+shift-end (y ∷ l) b j zero x f z e = rw e
+shift-end (y ∷ l) b j (suc k) x f z e = absurd (omega arith)
 
 -- ---- an element pulled out
 
@@ -62,7 +82,7 @@ module _ (l : List ℕ) (j : ℕ) (f : j < length l) where
         ∙ sym (past (take j l) (drop (suc j) l) j k before h ∙ getD-drop (suc j) l (k - j) 0)
 
     pub pull-again : k + 1 < length l → set b k (getD b (k + 1) 0) ≡ take (k + 1) (cut l j) ++ drop (k + 1) l
-    pull-again g = rw (e, there g) (over-turn (cut l j) l k (omega arith) (omega (arith, length-cut l j f)))
+    pull-again g = rw (ap (λ (t : List ℕ). getD t (k + 1) 0) e ∙ there g) (over-turn (cut l j) l b k e (omega arith) (omega (arith, length-cut l j f)))
 
     pub pull-end : (n : ℕ) → k < n → n ≤ k + 1 → n ≤ length l → set b k 0 ≡ take (n - 1) (cut l j) ++ (0 ∷ drop n l)
     pull-end n g i m =

@@ -35,14 +35,12 @@ fn shift(a: &mut [u32; 32], j: usize, x: u32)
     requires { ⌜ (length (now a) ≡ 32) × (j < 32) ⌝ }
     ensures { λ _. ⌜ now (a .exit) ≡ x ∷ (take j (now (a .entry)) ++ drop (suc j) (now (a .entry))) ⌝ }
 {
-    let mut carry = x;
-    let mut k: usize = 0;
-    while k <= j {
-        let t = a[k];
-        a[k] = carry;
-        carry = t;
-        k += 1;
+    let mut k = j;
+    while 0 < k {
+        a[k] = a[k - 1];
+        k -= 1;
     }
+    a[0] = x;
 }
 
 // Of the first n elements the one at j is gone, those after it are one nearer, and the last is 0.

@@ -1,24 +1,16 @@
 -- Words laid over words, and the cache as its words.
-use mathlib.Core.Path.{_≡_, refl, ap, sym, _∙_}
-use Prim.Native.Nat.{ℕ, zero, suc, _+_, _≤_, _<_}
+use mathlib.Core.Path.{_≡_, refl, ap, _∙_}
+use Prim.Native.Nat.{ℕ, zero, suc, _≤_}
 use native.Mathlib.Omega.{arith}
-use native.Mathlib.Numerals.{add-one}
 use mathlib.Core.List.{List, [], _∷_, _++_, append-nil}
-use lib.ListN.{length, getD, take, drop, set, length-drop, drop-of-length-le}
-use lib.Seq.{drop-cons, set-at, length-take-le, take-suc, append-snoc, take-all, take-at, drop-at}
+use lib.ListN.{length, take, drop, set, length-drop, drop-of-length-le}
+use lib.Seq.{take-all, take-at, drop-at}
 use Rattle.rules.specs.Cache.{Pointer}
 use Rattle.cache.specs.declared.{Cache.Cache}
 use Rattle.cache.specs.Code.{entries, pointers}
 use Rattle.capi.specs.Code.{entriesOf, keysOf, placesOf, cacheWords}
 
--- the first k elements of s over the front of l, one more
-pub over-turn : (s l b : List ℕ) (k : ℕ) → b ≡ take k s ++ drop k l → k < length l → k < length s → set b k (getD s k 0) ≡ take (k + 1) s ++ drop (k + 1) l
-over-turn s l b k e h g =
-    let long = length-take-le k s (omega arith) in
-    rw (e, add-one, take-suc s k 0 g, drop-cons l k 0 h, set-at (take k s) (getD l k 0) (drop (suc k) l) (getD s k 0) k long)
-    (sym (append-snoc (take k s) (getD s k 0) (drop (suc k) l)))
-
--- all of them
+-- a list laid wholly over another
 pub over-all : (s l b : List ℕ) (k : ℕ) → b ≡ take k s ++ drop k l → length l ≤ k → length s ≤ k → b ≡ s
 over-all s l b k e h g = e ∙ rw (take-all k s g, drop-of-length-le l h) (append-nil s)
 

@@ -19,7 +19,7 @@ use Rattle.laws.specs.Entries.{size-words, hit-at}
 use Rattle.items.specs.declared.{Spot.the-variants.At, Read.the-variants.Item}
 use Rattle.items.specs.Code.{part, readOf, told}
 use Rattle.cache.specs.Code.{arrays, pointers, NotedOk}
-use Rattle.fetch.specs.declared.{Mem.Mem, Fetched.Fetched}
+use Rattle.fetch.specs.declared.{Mem.Mem}
 use Rattle.fetch.specs.Code.{stOf, Kept, gotOf, toldGot}
 use Rattle.fetch.proofs.Laws.{kept-refl, fetch-hit}
 use Rattle.migrate.specs.declared.{Moved.Moved, Step.the-variants.To, Step.the-variants.Ask}

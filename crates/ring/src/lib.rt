@@ -1,6 +1,6 @@
 // The ring: where pages stand, their states, what a page holds, marking and erasing.
 ghost use mathlib.Core.Path.{_≡_};
-ghost use Prim.Native.Nat.{_+_, _-_, _*_, _^_, _≤_, _<_};
+ghost use Prim.Native.Nat.{_+_, _-_, _*_, _≤_, _<_};
 ghost use lib.ListN.{length, replicate};
 ghost use Rattle.rules.specs.declared.{PageState.the-variants.Corrupted};
 ghost use Rattle.rules.specs.Held.{Held};

@@ -4,7 +4,8 @@ use mathlib.Core.Path.{_≡_, refl}
 use mathlib.Core.List.{_++_}
 use lib.ListN.{length, take, drop}
 use native.Mathlib.Omega.{arith}
-use Rattle.capi.proofs.Words.{over-turn, over-all}
+use Rattle.cache.proofs.Loops.{over-turn}
+use Rattle.capi.proofs.Words.{over-all}
 use borrow.Author.Needs.{needs}
 use Rattle.capi.proofs.half.Statement.{statement}
 use Rattle.capi.proofs.half.Tie as tie

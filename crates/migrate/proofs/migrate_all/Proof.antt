@@ -4,7 +4,6 @@ use Rattle.migrate.proofs.Cached.{lies-skip, lies-item, kept-apart, run
 use Rattle.migrate.specs.Code.{Lies, memOf, runOf}
 use Rattle.fetch.specs.Code.{Kept}
 use Rattle.fetch.proofs.Laws.{kept-refl, kept-trans, held-len}
-use Rattle.rules.specs.Held.{Held}
 use Rattle.rules.specs.Items.{size}
 use mathlib.Core.Path.{_≡_, refl, sym, _∙_}
 use Prim.Native.Nat.{ℕ, _+_, _-_, _≤_}

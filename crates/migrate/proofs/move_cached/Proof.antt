@@ -5,7 +5,6 @@ use Rattle.fetch.proofs.Laws.{held-len}
 use Rattle.laws.specs.Geometry.{header-on}
 use Rattle.laws.specs.Reading.{le-size}
 use Rattle.items.proofs.Laws.{long-part}
-use mathlib.Core.Path.{sym, _∙_}
 use native.Mathlib.Omega.{arith}
 use lib.ListN.{length}
 use borrow.Author.Needs.{needs}
