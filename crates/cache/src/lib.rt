@@ -2,7 +2,7 @@
 ghost use mathlib.Core.Path.{_≡_};
 ghost use mathlib.Core.List.{_∷_, _++_};
 ghost use Prim.Native.Nat.{suc, _-_, _≤_, _<_};
-ghost use lib.ListN.{length, take, drop, replicate};
+ghost use lib.ListN.{length, getD, take, drop, replicate};
 ghost use Rattle.rules.specs.Cache.{lookup, note, forget, clear};
 ghost use Rattle.cache.specs.Code.{arrays, pointers, Past, NotedOk, index};
 
@@ -14,7 +14,7 @@ pub struct Cache {
 }
 
 // The index of the first entry in use with the key; size where there is none.
-fn seek<'a>(keys: &'a [u32; 32], places: &'a [u32; 32], size: usize, key: u32) -> usize
+pub fn seek<'a>(keys: &'a [u32; 32], places: &'a [u32; 32], size: usize, key: u32) -> usize
     requires { ⌜ (length (now keys) ≡ 32) × (length (now places) ≡ 32) × (size ≤ 32) ⌝ }
     ensures { λ r. ⌜ r ≡ index key (pointers size (arrays (now (keys .entry)) (now (places .entry)))) ⌝ }
 {
@@ -82,17 +82,31 @@ fn put_first(keys: &mut [u32; 32], places: &mut [u32; 32], j: usize, key: u32, p
     shift(places, j, place);
 }
 
-// The place that two lent arrays have for the key, 0 where they have none.
-pub fn find_in<'a>(keys: &'a [u32; 32], places: &'a [u32; 32], size: usize, key: u32) -> u32
-    requires { ⌜ (length (now keys) ≡ 32) × (length (now places) ≡ 32) × (size ≤ 32) ⌝ }
-    ensures { λ r. ⌜ r ≡ lookup key (pointers size (arrays (now (keys .entry)) (now (places .entry)))) ⌝ }
+// The place of entry i.
+pub fn place(places: &[u32; 32], i: usize) -> u32
+    requires { ⌜ i < 32 ⌝ }
+    ensures { λ r. ⌜ r ≡ getD (now (places .entry)) i 0 ⌝ }
 {
-    let i = seek(keys, places, size, key);
-    if i < size { places[i] } else { 0 }
+    places[i]
+}
+
+// The key's entry, which is i, goes to the front of two lent arrays with this place.
+pub fn renew(
+    keys: &mut [u32; 32],
+    places: &mut [u32; 32],
+    size: usize,
+    i: usize,
+    key: u32,
+    place: u32,
+)
+    requires { ⌜ (length (now keys) ≡ 32) × (length (now places) ≡ 32) × (size ≤ 32) × (i < size) × (i ≡ index key (pointers size (arrays (now keys) (now places)))) ⌝ }
+    ensures { λ _. ⌜ NotedOk size key place (arrays (now (keys .entry)) (now (places .entry))) (arrays (now (keys .exit)) (now (places .exit))) ⌝ }
+{
+    put_first(keys, places, i, key, place);
 }
 
 // The key with this place at the front of two lent arrays: its old entry is gone, or else the last.
-pub fn note_in(keys: &mut [u32; 32], places: &mut [u32; 32], size: usize, key: u32, place: u32)
+fn note_in(keys: &mut [u32; 32], places: &mut [u32; 32], size: usize, key: u32, place: u32)
     requires { ⌜ (length (now keys) ≡ 32) × (length (now places) ≡ 32) × (size ≤ 32) ⌝ }
     ensures { λ _. ⌜ NotedOk size key place (arrays (now (keys .entry)) (now (places .entry))) (arrays (now (keys .exit)) (now (places .exit))) ⌝ }
 {
@@ -101,7 +115,7 @@ pub fn note_in(keys: &mut [u32; 32], places: &mut [u32; 32], size: usize, key: u
     }
     let i = seek(keys, places, size, key);
     if i < size {
-        put_first(keys, places, i, key, place);
+        renew(keys, places, size, i, key, place);
         return;
     }
     put_first(keys, places, size - 1, key, place);
@@ -112,7 +126,8 @@ pub fn find(cache: Cache, size: usize, key: u32) -> u32
     requires { ⌜ size ≤ 32 ⌝ }
     ensures { λ r. ⌜ r ≡ lookup key (pointers size cache) ⌝ }
 {
-    find_in(&cache.keys, &cache.places, size, key)
+    let i = seek(&cache.keys, &cache.places, size, key);
+    if i < size { cache.places[i] } else { 0 }
 }
 
 // The key with this place at the front of the cache.

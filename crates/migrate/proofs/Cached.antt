@@ -5,8 +5,8 @@ use Prim.Native.Nat.{ℕ, suc, _+_, _-_, _/_, _%_, _≤_, _<_}
 use native.Mathlib.Omega.{arith}
 use mathlib.Core.Bool.{Bool, true, false, not}
 use mathlib.Core.List.{List, _++_}
-use lib.ListN.{length, take, drop}
-use borrow.Author.Tests.{eq-eqb}
+use lib.ListN.{length, getD, take, drop}
+use borrow.Author.Tests.{eq-eqb, eqb-false}
 use Rattle.rules.specs.declared.{Geo.Geo}
 use lib.Dec.{leb, ltb, eqb}
 use Rattle.rules.specs.Bytes.{pick, both, allFF, program}
@@ -18,7 +18,9 @@ use Rattle.rules.specs.Fetch.{missing, found, hitItem, hit, fetchIn}
 use Rattle.laws.specs.Entries.{size-words, hit-at}
 use Rattle.items.specs.declared.{Spot.the-variants.At, Read.the-variants.Item}
 use Rattle.items.specs.Code.{part, readOf, told}
-use Rattle.cache.specs.Code.{arrays, pointers, NotedOk}
+use Rattle.cache.specs.declared.{Cache.Cache}
+use Rattle.cache.specs.Code.{arrays, pointers, NotedOk, index}
+use Rattle.cache.proofs.Pointers.{Sized, find-hit, hit as entry-hit}
 use Rattle.fetch.specs.declared.{Mem.Mem}
 use Rattle.fetch.specs.Code.{stOf, Kept, gotOf, toldGot}
 use Rattle.fetch.proofs.Laws.{kept-refl, fetch-hit}
@@ -34,6 +36,14 @@ yes false h = let z : _≡_ {A = ℕ} 0 1 = cc in absurd (omega arith)
 no : (b : Bool) → not b ≡ true → b ≡ false
 no true h = let z : _≡_ {A = ℕ} 0 1 = cc in absurd (omega arith)
 no false h = refl
+
+-- the place of the key's entry is what the cache has for it
+module _ (n : ℕ) (c : Cache) (s : Sized n c) (k i x : ℕ) (e : i ≡ index k (pointers n c)) (l : i < n) (h : x ≡ getD (c .places) i 0) where
+  pub place-is : x ≡ lookup k (pointers n c)
+  place-is = h ∙ find-hit c n s k i e l
+
+  pub place-some : x ≢ 0
+  place-some z = eqb-false (lookup k (pointers n c)) 0 (entry-hit c n s k i e l .used) (sym place-is ∙ z)
 
 -- a hit is at the cached place
 hit-place : (G : Geo) (img : List ℕ) (k x p l : ℕ) → At p l ≡ told (hit G img k x) → p ≡ x

@@ -130,10 +130,11 @@ fn move_cached(
         return Step::To(to);
     }
     let key = items::key(&img[at..e], len);
-    let a = cache::find_in(keys, places, slots, key) as usize;
-    if a == 0 {
+    let i = cache::seek(keys, places, slots, key);
+    if slots <= i {
         return Step::Ask;
     }
+    let a = cache::place(places, i) as usize;
     if a != at {
         let Cached::At(p, l) = search::hit(img, g, key, a) else {
             return Step::Ask;
@@ -144,7 +145,7 @@ fn move_cached(
     if !words::all_ff(&img[to..to + span]) {
         return Step::Ask;
     }
-    cache::note_in(keys, places, slots, key, to as u32);
+    cache::renew(keys, places, slots, i, key, to as u32);
     write::copy_item(img, at, len, to, g.word);
     Step::To(to + span)
 }

@@ -1,6 +1,6 @@
 -- `cache::note_in` meets its contract: no entries, the key's entry moved, the last entry dropped.
 use Prim.Native.Nat.{_-_}
-use Rattle.cache.proofs.Pointers.{Sized, others-hit, others-none}
+use Rattle.cache.proofs.Pointers.{Sized, others-none}
 use Rattle.cache.proofs.Changes.{noted}
 use mathlib.Core.Path.{refl}
 use Rattle.rules.specs.Cache.{note}
@@ -20,13 +20,7 @@ returns c = record {
 }
 
 returns-2 : tie.Need-returns-2
-returns-2 c =
-    let a = c .before .before .before .before .before .before .before .before .args in
-    let k = arrays (a .keys .now) (a .places .now) in
-    let s : Sized (a .size) k = search needs in
-    let l = c .before .before .before .if2 .taken in
-    let o = others-hit k (a .size) s (a .key) _ (c .before .before .before .before .seek .ensures) l in
-    noted k _ (a .size) s _ l (a .key) (a .place) o (c .put-first .ensures .0) (c .put-first .ensures .1)
+returns-2 c = c .renew .ensures
 
 returns-3 : tie.Need-returns-3
 returns-3 c =
@@ -34,7 +28,7 @@ returns-3 c =
     let k = arrays (a .keys .now) (a .places .now) in
     let s : Sized (a .size) k = search needs in
     let o = others-none k (a .size) s (a .key) _ (c .before .before .before .before .seek .ensures) (c .before .before .before .if2 .left) (omega arith) in
-    noted k _ (a .size) s (a .size - 1) (omega arith) (a .key) (a .place) o (c .put-first2 .ensures .0) (c .put-first2 .ensures .1)
+    noted k _ (a .size) s (a .size - 1) (omega arith) (a .key) (a .place) o (c .put-first .ensures .0) (c .put-first .ensures .1)
 
 pub note-in-spec : {M : Type 1} → statement M
 note-in-spec =
