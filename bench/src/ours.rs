@@ -1,52 +1,16 @@
 //! The proved library, called as from C: image, cache and out words are kept between calls.
 use crate::side::Side;
 
+#[rustfmt::skip] // laid out as in include/werandumb.h
 unsafe extern "C" {
-    fn map_fetch_item(
-        image: *mut u8,
-        image_len: usize,
-        page: usize,
-        cache: *mut u32,
-        cache_len: usize,
-        size: usize,
-        key: u32,
-        out: *mut u32,
-        out_len: usize,
-    ) -> u32;
-    fn map_store_item(
-        image: *mut u8,
-        image_len: usize,
-        page: usize,
-        cache: *mut u32,
-        cache_len: usize,
-        size: usize,
-        key: u32,
-        value: *const u8,
-        value_len: usize,
-        out: *mut u32,
-        out_len: usize,
-    ) -> u32;
-    fn map_walk_start(
-        image: *mut u8,
-        image_len: usize,
-        page: usize,
-        cache: *mut u32,
-        cache_len: usize,
-        size: usize,
-        cursor: *mut u32,
-        cursor_len: usize,
-        out: *mut u32,
-        out_len: usize,
-    ) -> u32;
-    fn map_walk_step(
-        image: *const u8,
-        image_len: usize,
-        page: usize,
-        cursor: *mut u32,
-        cursor_len: usize,
-        out: *mut u32,
-        out_len: usize,
-    ) -> u32;
+    fn map_fetch_item(image: *mut u8, image_len: usize, page: usize, cache: *mut u32, cache_len: usize, size: usize,
+                      key: u32, out: *mut u32, out_len: usize) -> u32;
+    fn map_store_item(image: *mut u8, image_len: usize, page: usize, cache: *mut u32, cache_len: usize, size: usize,
+                      key: u32, value: *const u8, value_len: usize, out: *mut u32, out_len: usize) -> u32;
+    fn map_walk_start(image: *mut u8, image_len: usize, page: usize, cache: *mut u32, cache_len: usize, size: usize,
+                      cursor: *mut u32, cursor_len: usize, out: *mut u32, out_len: usize) -> u32;
+    fn map_walk_step(image: *const u8, image_len: usize, page: usize, cursor: *mut u32, cursor_len: usize,
+                     out: *mut u32, out_len: usize) -> u32;
 }
 
 /// A call with a cache: what it takes after the cache size, then the out words. Counts the erased pages, gives the number.
