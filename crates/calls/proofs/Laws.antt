@@ -9,7 +9,8 @@ use borrow.Author.Tests.{ne-eqb, eq-eqb, lt-ltb, le-ltb}
 use Rattle.rules.specs.declared.{Geo.Geo, Answer.Answer, Answer.the-variants.Done, Answer.the-variants.Value, Answer.the-variants.Corrupted}
 use Rattle.rules.specs.Bytes.{pick}
 use Rattle.rules.specs.Cache.{Cache, lookup}
-use Rattle.rules.specs.Runs.{St, end, final, cleared}
+use Rattle.rules.specs.Runs.{St, out, cleared}
+use Rattle.laws.specs.Through.{thr-refl, thr-from}
 use Rattle.rules.specs.Fetch.{Found, corrupt, missing, found, answerOf, noteFound, fullFetch, onHit, newest, hit, fetchIn, runFetch, servedBy}
 use Rattle.rules.specs.Store.{autoRepair, fetchBy, fetch, store}
 use Rattle.rules.specs.Remove.{remove}
@@ -24,7 +25,7 @@ use Rattle.fetch.proofs.Laws.{past-refl}
 use Rattle.store.specs.declared.{Run.Run}
 use Rattle.store.specs.Code.{RunOk}
 use Rattle.calls.specs.declared.{Job.Job, Job.the-variants.Fetch, Job.the-variants.Store, Job.the-variants.Remove, Job.the-variants.Start}
-use Rattle.calls.specs.Code.{toldAnswer, runOf, servedOf, callOf}
+use Rattle.calls.specs.Code.{toldAnswer, runOf, servedOf, callOf, StillOk}
 
 -- what is found is answered by its place and data length
 pub answer-is : (x : Found) → FoundPlain x → toldAnswer (told x) ≡ answerOf x
@@ -54,29 +55,35 @@ module _ (G : Geo) (k : ℕ) where
       go false = on-plain s (hit G (s .img) k (lookup k (s .cache))) (hit-plain G (s .img) k (lookup k (s .cache)))
 
   pub fetch-run : (n : ℕ) (img : List ℕ) (mem : Mem) (f : Fetched) (a : Answer) → gotOf n img f ≡ toldGot (fetchIn G k (stOf n img mem)) → Kept n mem (f .mem)
-      → a ≡ toldAnswer (f .spot) → RunOk n 0 (runFetch G k) img img mem (record { mem = f .mem; answer = a })
+      → a ≡ toldAnswer (f .spot) → StillOk G n (runFetch G k) img mem (record { mem = f .mem; answer = a })
   fetch-run n img mem f a e hk ha =
       let g = fetchIn G k (stOf n img mem) in
       let s : f .spot ≡ told (g .res) = ap (λ (t : Told). t .spot) e in
       let t : stOf n img (f .mem) ≡ g .st = ap (λ (t : Told). t .st) e in
       let q : a ≡ answerOf (g .res) = ha ∙ ap toldAnswer s ∙ answer-is (g .res) (fetch-plain (stOf n img mem)) in
-      record { is = ap (λ (x : Answer). end x (stOf n img (f .mem))) q ∙ ap (λ (x : St). end (answerOf (g .res)) x) t; past = hk .past; erased = omega (arith, hk .erased) }
+      record {
+        run = λ p. record {
+          is = thr-from G (sym (ap (λ (x : Answer). out x (stOf n img (f .mem))) q ∙ ap (λ (x : St). out (answerOf (g .res)) x) t)) (thr-refl G (out a (stOf n img (f .mem))) img p);
+          past = hk .past;
+          erased = omega (arith, hk .erased);
+        };
+      }
 
 -- ---- a job's run, from that of its kind, which erases fewer pages
 
-module _ (G : Geo) (n b : ℕ) (j : Job) (v img img′ : List ℕ) (mem : Mem) (r : Run) where
-  pub as-job : (job : Job) → job ≡ j → b ≤ G .pages → RunOk n b (runOf G j v) img img′ mem r → RunOk n (G .pages) (runOf G job v) img img′ mem r
+module _ (G : Geo) (n b : ℕ) (j : Job) (v img img′ : List ℕ) (p p′ : ℕ) (mem : Mem) (r : Run) where
+  pub as-job : (job : Job) → job ≡ j → b ≤ G .pages → RunOk G n b (runOf G j v) img p img′ p′ mem r → RunOk G n (G .pages) (runOf G job v) img p img′ p′ mem r
   as-job job e h R = rw e (record { is = R .is; past = R .past; erased = omega (arith, R .erased) })
 
-module _ (G : Geo) (n : ℕ) (img : List ℕ) (mem : Mem) (f : ℕ) (hf : f ≡ walkFirst G img) where
+module _ (G : Geo) (n : ℕ) (img : List ℕ) (p : ℕ) (mem : Mem) (f : ℕ) (hf : f ≡ walkFirst G img) where
   abbrev StartOk : Answer → Type 0
-  StartOk a = RunOk n 0 (runStart G) img img mem (record { mem = mem; answer = a })
+  StartOk a = RunOk G n 0 (runStart G) img p img p mem (record { mem = mem; answer = a })
 
   pub start-done : f < G .pages → StartOk Done
-  start-done h = record { is = rw (← hf, lt-ltb f (G .pages) h); past = past-refl n (mem .cache); erased = omega arith }
+  start-done h = record { is = rw (← hf, lt-ltb f (G .pages) h) (thr-refl G (out Done (stOf n img mem)) img p); past = past-refl n (mem .cache); erased = omega arith }
 
   pub start-bad : G .pages ≤ f → StartOk Corrupted
-  start-bad h = record { is = rw (← hf, le-ltb f (G .pages) h); past = past-refl n (mem .cache); erased = omega arith }
+  start-bad h = record { is = rw (← hf, le-ltb f (G .pages) h) (thr-refl G (out Corrupted (stOf n img mem)) img p); past = past-refl n (mem .cache); erased = omega arith }
 
 -- ---- what the cache alone finds
 
@@ -103,10 +110,10 @@ module _ (G : Geo) (k : ℕ) (s : St) where
   by-none missing q = refl
   by-none (found e) q = let z : _≡_ {A = ℕ} 0 1 = cc in absurd (omega arith)
 
-  by-at : (x : Found) (p l : ℕ) → FoundPlain x → At p l ≡ told x → end (Value (p + 12) (l - 4)) s ≡ final (fetchBy G k s x)
+  by-at : (x : Found) (p l : ℕ) → FoundPlain x → At p l ≡ told x → out (Value (p + 12) (l - 4)) s ≡ fetchBy G k s x
   by-at corrupt p l h q = let z : _≡_ {A = ℕ} 0 1 = cc in absurd (omega arith)
   by-at missing p l h q = let z : _≡_ {A = ℕ} 0 1 = cc in absurd (omega arith)
-  by-at (found e) p l h q = rw (h .0, h .1) (ap (λ (x : Spot). end (toldAnswer x) s) q)
+  by-at (found e) p l h q = rw (h .0, h .1) (ap (λ (x : Spot). out (toldAnswer x) s) q)
 
 module _ (G : Geo) (v : List ℕ) (s : St) where
   runs : (job : Job) → Missing ≡ told (servedOf G job (s .img) (s .cache)) → callOf G job v s ≡ autoRepair G (runOf G job v) s
@@ -116,18 +123,22 @@ module _ (G : Geo) (v : List ℕ) (s : St) where
   runs (Remove t) q = refl
   runs Start q = refl
 
-  serves : (job : Job) (p l : ℕ) → At p l ≡ told (servedOf G job (s .img) (s .cache)) → end (Value (p + 12) (l - 4)) s ≡ final (callOf G job v s)
+  serves : (job : Job) (p l : ℕ) → At p l ≡ told (servedOf G job (s .img) (s .cache)) → out (Value (p + 12) (l - 4)) s ≡ callOf G job v s
   unfolding fetch
   serves (Fetch k) p l q = by-at G k s (servedBy G k s) p l (served-plain G k (s .img) (s .cache)) q
   serves (Store k) p l q = let z : _≡_ {A = ℕ} 0 1 = cc in absurd (omega arith)
   serves (Remove t) p l q = let z : _≡_ {A = ℕ} 0 1 = cc in absurd (omega arith)
   serves Start p l q = let z : _≡_ {A = ℕ} 0 1 = cc in absurd (omega arith)
 
-module _ (G : Geo) (n b : ℕ) (job : Job) (v img : List ℕ) (mem : Mem) where
-  pub call-runs : (img′ : List ℕ) (r : Run) → Missing ≡ told (servedOf G job img (pointers n (mem .cache)))
-      → RunOk n b (autoRepair G (runOf G job v)) img img′ mem r → RunOk n b (callOf G job v) img img′ mem r
-  call-runs img′ r q R = record { is = R .is ∙ ap final (sym (runs G v (stOf n img mem) job q)); past = R .past; erased = R .erased }
+module _ (G : Geo) (n b : ℕ) (job : Job) (v img : List ℕ) (pw : ℕ) (mem : Mem) where
+  pub call-runs : (img′ : List ℕ) (pw′ : ℕ) (r : Run) → Missing ≡ told (servedOf G job img (pointers n (mem .cache)))
+      → RunOk G n b (autoRepair G (runOf G job v)) img pw img′ pw′ mem r → RunOk G n b (callOf G job v) img pw img′ pw′ mem r
+  call-runs img′ pw′ r q R = record { is = thr-from G (runs G v (stOf n img mem) job q) (R .is); past = R .past; erased = R .erased }
 
   pub call-served : (p l : ℕ) → At p l ≡ told (servedOf G job img (pointers n (mem .cache)))
-      → RunOk n b (callOf G job v) img img mem (record { mem = mem; answer = Value (p + 12) (l - 4) })
-  call-served p l q = record { is = serves G v (stOf n img mem) job p l q; past = past-refl n (mem .cache); erased = omega arith }
+      → RunOk G n b (callOf G job v) img pw img pw mem (record { mem = mem; answer = Value (p + 12) (l - 4) })
+  call-served p l q = record {
+    is = thr-from G (sym (serves G v (stOf n img mem) job p l q)) (thr-refl G (out (Value (p + 12) (l - 4)) (stOf n img mem)) img pw);
+    past = past-refl n (mem .cache);
+    erased = omega arith;
+  }

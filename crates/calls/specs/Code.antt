@@ -9,6 +9,9 @@ use Rattle.rules.specs.Store.{turns, fetch, store}
 use Rattle.rules.specs.Remove.{runRemove, remove}
 use Rattle.rules.specs.Walk.{runStart, walkStart}
 use Rattle.items.specs.declared.{Spot.Spot, Spot.the-variants.Corrupt, Spot.the-variants.Missing, Spot.the-variants.At}
+use Rattle.fetch.specs.declared.{Mem.Mem}
+use Rattle.store.specs.declared.{Run.Run}
+use Rattle.store.specs.Code.{RunOk}
 use Rattle.remove.specs.Code.{whichOf}
 use Rattle.calls.specs.declared.{Job.Job, Job.the-variants.Fetch, Job.the-variants.Store, Job.the-variants.Remove, Job.the-variants.Start}
 
@@ -38,3 +41,7 @@ callOf G (Fetch k) v = fetch G k
 callOf G (Store k) v = store G k v
 callOf G (Remove t) v = remove G (whichOf t)
 callOf G Start v = walkStart G
+
+-- a run that changes no byte, with any power
+pub record StillOk (G : Geo) (n : ℕ) (f : St → Out) (img : List ℕ) (mem : Mem) (r : Run) : Type 0 where
+  pub run : (p : ℕ) → RunOk G n 0 f img p img p mem r

@@ -10,7 +10,7 @@ ghost use Rattle.cache.specs.Code.{pointers};
 ghost use Rattle.search.specs.Code.{spotOf};
 ghost use Rattle.store.specs.Code.{RunOk};
 ghost use Rattle.mend.specs.Code.{againOf};
-ghost use Rattle.calls.specs.Code.{toldAnswer, runOf, servedOf, callOf};
+ghost use Rattle.calls.specs.Code.{StillOk, toldAnswer, runOf, servedOf, callOf};
 use cache::Cache;
 use fetch::Mem;
 use items::Spot;
@@ -43,7 +43,7 @@ fn answer_of(spot: Spot, len: usize) -> Answer
 // A fetch with the cache.
 fn run_fetch(img: &[u8], g: Geo, mem: Mem, slots: usize, key: u32) -> Run
     requires { ⌜ Held g (length (now img)) × (slots ≤ 32) ⌝ }
-    ensures { λ r. ⌜ RunOk slots 0 (runFetch g key) (now (img .entry)) (now (img .entry)) mem r ⌝ }
+    ensures { λ r. ⌜ StillOk g slots (runFetch g key) (now (img .entry)) mem r ⌝ }
 {
     let f = fetch::fetch_in(img, g, mem, slots, key);
     let m = f.mem;
@@ -55,14 +55,14 @@ fn run_fetch(img: &[u8], g: Geo, mem: Mem, slots: usize, key: u32) -> Run
 }
 
 // A job's run. A walk's start needs a first page.
-fn run(img: &mut [u8], g: Geo, mem: Mem, slots: usize, job: Job, v: &[u8]) -> Run
+fn run(img: &mut [u8], g: Geo, mem: Mem, slots: usize, job: Job, v: &[u8], power: &mut usize) -> Run
     requires { ⌜ Held g (length (now img)) × (slots ≤ 32) × (length (now v) ≤ 32768) × (mem .erased < 2 ^ 31) ⌝ }
-    ensures { λ r. ⌜ RunOk slots (g .pages) (runOf g job (now (v .entry))) (now (img .entry)) (now (img .exit)) mem r ⌝ }
+    ensures { λ r. ⌜ RunOk g slots (g .pages) (runOf g job (now (v .entry))) (now (img .entry)) (now (power .entry)) (now (img .exit)) (now (power .exit)) mem r ⌝ }
 {
     match job {
         Job::Fetch(key) => run_fetch(img, g, mem, slots, key),
-        Job::Store(key) => store::turns(img, g, mem, slots, key, v),
-        Job::Remove(which) => remove::run_remove(img, g, mem, slots, which),
+        Job::Store(key) => store::turns(img, g, mem, slots, key, v, power),
+        Job::Remove(which) => remove::run_remove(img, g, mem, slots, which, power),
         Job::Start => {
             if walk::walk_first(img, g) < g.pages {
                 return Run {
@@ -79,9 +79,17 @@ fn run(img: &mut [u8], g: Geo, mem: Mem, slots: usize, job: Job, v: &[u8]) -> Ru
 }
 
 // The run after the look at all page states.
-fn look_and_run(img: &mut [u8], g: Geo, mem: Mem, slots: usize, job: Job, v: &[u8]) -> Run
+fn look_and_run(
+    img: &mut [u8],
+    g: Geo,
+    mem: Mem,
+    slots: usize,
+    job: Job,
+    v: &[u8],
+    power: &mut usize,
+) -> Run
     requires { ⌜ Held g (length (now img)) × (slots ≤ 32) × (length (now v) ≤ 32768) × (mem .erased < 2 ^ 31) ⌝ }
-    ensures { λ r. ⌜ RunOk slots (g .pages) (looked g (runOf g job (now (v .entry)))) (now (img .entry)) (now (img .exit)) mem r ⌝ }
+    ensures { λ r. ⌜ RunOk g slots (g .pages) (looked g (runOf g job (now (v .entry)))) (now (img .entry)) (now (power .entry)) (now (img .exit)) (now (power .exit)) mem r ⌝ }
 {
     if ring::any_corrupted(img, g) {
         return Run {
@@ -89,34 +97,50 @@ fn look_and_run(img: &mut [u8], g: Geo, mem: Mem, slots: usize, job: Job, v: &[u
             answer: Answer::Corrupted,
         };
     }
-    run(img, g, mem, slots, job, v)
+    run(img, g, mem, slots, job, v, power)
 }
 
 // The repair, and the run after it.
-fn again(img: &mut [u8], g: Geo, mem: Mem, slots: usize, job: Job, v: &[u8]) -> Run
+fn again(
+    img: &mut [u8],
+    g: Geo,
+    mem: Mem,
+    slots: usize,
+    job: Job,
+    v: &[u8],
+    power: &mut usize,
+) -> Run
     requires { ⌜ Held g (length (now img)) × (slots ≤ 32) × (length (now v) ≤ 32768) × (mem .erased < 2 ^ 30) ⌝ }
-    ensures { λ r. ⌜ RunOk slots (g .pages + 2 + g .pages) (againOf g (runOf g job (now (v .entry)))) (now (img .entry)) (now (img .exit)) mem r ⌝ }
+    ensures { λ r. ⌜ RunOk g slots (g .pages + 2 + g .pages) (againOf g (runOf g job (now (v .entry)))) (now (img .entry)) (now (power .entry)) (now (img .exit)) (now (power .exit)) mem r ⌝ }
 {
-    let r = mend::try_repair(img, g, mem, slots);
+    let r = mend::try_repair(img, g, mem, slots, power);
     let a = r.answer;
     if answer::is(a, 0) {
         let m = r.mem;
-        let second = look_and_run(img, g, m, slots, job, v);
+        let second = look_and_run(img, g, m, slots, job, v, power);
         return mend::settle(second, slots);
     }
     mend::settle(r, slots)
 }
 
 // A job that repairs once on Corrupted and runs again.
-fn auto_repair(img: &mut [u8], g: Geo, mem: Mem, slots: usize, job: Job, v: &[u8]) -> Run
+fn auto_repair(
+    img: &mut [u8],
+    g: Geo,
+    mem: Mem,
+    slots: usize,
+    job: Job,
+    v: &[u8],
+    power: &mut usize,
+) -> Run
     requires { ⌜ Held g (length (now img)) × (slots ≤ 32) × (length (now v) ≤ 32768) × (mem .erased < 2 ^ 20) ⌝ }
-    ensures { λ r. ⌜ RunOk slots (g .pages + (g .pages + 2 + g .pages)) (autoRepair g (runOf g job (now (v .entry)))) (now (img .entry)) (now (img .exit)) mem r ⌝ }
+    ensures { λ r. ⌜ RunOk g slots (g .pages + (g .pages + 2 + g .pages)) (autoRepair g (runOf g job (now (v .entry)))) (now (img .entry)) (now (power .entry)) (now (img .exit)) (now (power .exit)) mem r ⌝ }
 {
-    let first = look_and_run(img, g, mem, slots, job, v);
+    let first = look_and_run(img, g, mem, slots, job, v, power);
     let a = first.answer;
     if answer::is(a, 8) {
         let m = first.mem;
-        return again(img, g, m, slots, job, v);
+        return again(img, g, m, slots, job, v, power);
     }
     first
 }
@@ -141,13 +165,21 @@ fn served_by(img: &[u8], g: Geo, cache: Cache, slots: usize, job: Job) -> Cached
 }
 
 // A call: a fetch that a cache hit serves answers at once, without a look at the page states.
-pub fn call(img: &mut [u8], g: Geo, mem: Mem, slots: usize, job: Job, v: &[u8]) -> Run
+pub fn call(
+    img: &mut [u8],
+    g: Geo,
+    mem: Mem,
+    slots: usize,
+    job: Job,
+    v: &[u8],
+    power: &mut usize,
+) -> Run
     requires { ⌜ Held g (length (now img)) × (slots ≤ 32) × (length (now v) ≤ 32768) × (mem .erased < 2 ^ 20) ⌝ }
-    ensures { λ r. ⌜ RunOk slots (g .pages + (g .pages + 2 + g .pages)) (callOf g job (now (v .entry))) (now (img .entry)) (now (img .exit)) mem r ⌝ }
+    ensures { λ r. ⌜ RunOk g slots (g .pages + (g .pages + 2 + g .pages)) (callOf g job (now (v .entry))) (now (img .entry)) (now (power .entry)) (now (img .exit)) (now (power .exit)) mem r ⌝ }
 {
     let c = mem.cache;
     let Cached::At(p, l) = served_by(img, g, c, slots, job) else {
-        return auto_repair(img, g, mem, slots, job, v);
+        return auto_repair(img, g, mem, slots, job, v, power);
     };
     Run {
         mem,

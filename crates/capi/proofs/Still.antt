@@ -13,6 +13,7 @@ use Rattle.rules.specs.Bytes.{pick}
 use Rattle.rules.specs.Cache.{Cache as Entries, lookup, note}
 use Rattle.rules.specs.Answers.{number, isNo, refusal}
 use Rattle.rules.specs.Runs.{out, on}
+use Rattle.laws.specs.Through.{thr-endless}
 use Rattle.rules.specs.Fetch.{Found, corrupt, missing, found, answerOf, noteFound, newest, hit, fetchIn, runFetch, plainFetch}
 use Rattle.rules.specs.Pages.{anyCorrupted}
 use Rattle.rules.specs.Store.{looked, autoRepair, fetch}
@@ -87,8 +88,9 @@ module _ (E m k : ℕ) (img ws : List ℕ) (no : Answer) (d : ℕ) (hno : no ≡
   still-hit z h G g a p l ha n q =
       let mem : Mem = record { cache = lentCache ws; erased = 0 } in
       let s = served-hit G img (pointers m (lentCache ws)) (Fetch k) k refl a ha (At p l) n q in
-      let R = call-served G m 0 (Fetch k) [] img mem p l s in
-      let t = ran E m 0 img no d hno hd (λ G s. fetch G k s) (λ G o. noCursor) noCursor z (lentCache ws) 0 G g img (record { mem = mem; answer = Value (p + 12) (l - 4) }) R noCursor refl in
+      let R = call-served G m 0 (Fetch k) [] img 18446744073709551615 mem p l s in
+      let e = thr-endless G _ img img 18446744073709551615 18446744073709551615 _ _ (omega arith) (R .is) in
+      let t = ran E m 0 img no d hno hd (λ G s. fetch G k s) (λ G o. noCursor) noCursor z (lentCache ws) G g img (record { mem = mem; answer = Value (p + 12) (l - 4) }) e (R .past) noCursor refl in
       record { is = λ x. rw (lent-is ws h) at t }
 
 -- ---- without a cache

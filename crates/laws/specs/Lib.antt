@@ -22,4 +22,6 @@ pub mod Moves
 -- 5 runs and their flash steps
 pub mod Plain
 pub mod RunLaws
+pub mod Power
+pub mod Through
 pub mod Plays

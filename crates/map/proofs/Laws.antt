@@ -1,31 +1,34 @@
 -- A public call is refused, or it runs.
 use mathlib.Core.Path.{_≡_, refl, ap, sym, _∙_}
 use mathlib.Core.Logic.{_≢_, inl}
-use Prim.Native.Nat.{ℕ}
+use Prim.Native.Nat.{ℕ, _≤_}
 use native.Mathlib.Omega.{arith}
 use mathlib.Core.Bool.{Bool, true, false}
 use mathlib.Core.List.{List, [], _++_}
 use lib.ListN.{length, take, drop}
 use borrow.Author.Tests.{ne-eqb, eq-eqb, eqb-true, eqb-false, ltb-true}
 use Rattle.rules.specs.declared.{Geo.Geo, Cursor.Cursor, Answer.Answer, Answer.the-variants.Done, Answer.the-variants.Corrupted}
-use Rattle.rules.specs.Bytes.{pick}
+use Rattle.rules.specs.Bytes.{pick, FlashStep}
 use Rattle.rules.specs.Cache.{Cache as Entries}
 use Rattle.rules.specs.Answers.{number, isNo, refusal}
 use Rattle.rules.specs.Pages.{dataAt, isPage, anyCorrupted}
 use Rattle.rules.specs.Runs.{St, Out, out, after, on, onDone, End, end, final, cleared, clearCorrupted}
 use Rattle.rules.specs.Store.{repair, looked, autoRepair}
 use Rattle.rules.specs.Walk.{Step, ended, stepped, walkFirst, runStart, walkStart}
-use Rattle.rules.specs.Calls.{Told as Handed, stepAnswer, stepCursor, geoOf, tell, behind}
+use Rattle.rules.specs.Calls.{Lent, Told as Handed, noCursor, stepAnswer, stepCursor, geoOf, tell, behind, stepsBehind, Cut}
 use Rattle.laws.specs.Geometry.{fits}
 use Rattle.cache.specs.declared.{Cache.Cache}
-use Rattle.cache.specs.Code.{pointers}
+use Rattle.laws.specs.Power.{lasts-endless, spend-zero}
+use Rattle.laws.specs.Through.{thr-cut}
+use Rattle.rules.specs.Power.{endless, units}
+use Rattle.cache.specs.Code.{pointers, Past}
 use Rattle.cache.proofs.Whole.{take-pointers, past-pointers}
 use Rattle.fetch.specs.declared.{Mem.Mem}
 use Rattle.fetch.specs.Code.{stOf}
 use Rattle.store.specs.declared.{Run.Run}
 use Rattle.store.specs.Code.{RunOk}
 use Rattle.walk.specs.Code.{toldStep}
-use Rattle.map.specs.Code.{lentOf, answered, HasFirst, firstCursor, steppedBy}
+use Rattle.map.specs.Code.{lentOf, RunCut, answered, HasFirst, firstCursor, steppedBy}
 
 module _ (E m v : ℕ) (img : List ℕ) (no : Answer) (d : ℕ) (hno : no ≡ refusal 4 E (length img) m v) (hd : d ≡ number no) where
   module _ (f : Geo → St → Out) (cur : Geo → Out → Cursor) (c₀ : Cursor) where
@@ -40,17 +43,51 @@ module _ (E m v : ℕ) (img : List ℕ) (no : Answer) (d : ℕ) (hno : no ≡ re
     passed z c = rw (← hno, eq-eqb (number no) 0 (sym hd ∙ z))
 
     -- a run hands back its end, and the entries past the size as they were
-    pub ran : d ≡ 0 → (c : Cache) (b : ℕ) (G : Geo) → G ≡ geoOf 4 E (length img) → (img′ : List ℕ) (r : Run) → RunOk m b (f G) img img′ (record { cache = c; erased = 0 }) r
+    pub ran : d ≡ 0 → (c : Cache) (G : Geo) → G ≡ geoOf 4 E (length img) → (img′ : List ℕ) (r : Run)
+        → end (r .answer) (stOf m img′ (r .mem)) ≡ final (f G (stOf m img (record { cache = c; erased = 0 }))) → Past m c (r .mem .cache)
         → (k : Cursor) → k ≡ cur G (f G (stOf m img (record { cache = c; erased = 0 })))
         → record { answer = r .answer; cursor = k; image = img′; cache = pointers 32 (r .mem .cache); erased = r .mem .erased }
         ≡ behind 4 E m v (lentOf img c) f cur c₀
-    ran z c b G g img′ r R k hk =
+    ran z c G g img′ r R P k hk =
         let le = fits 4 E m v img (inl refl) no d hno hd z .cached in
         let o = f G (stOf m img (record { cache = c; erased = 0 })) in
         let whole : tell m (lentOf img c) (λ x. k) o ≡ record { answer = r .answer; cursor = k; image = img′; cache = pointers 32 (r .mem .cache); erased = r .mem .erased } =
-        ap {B = Handed} (λ (x : End). record { answer = x .ans; cursor = k; image = x .st .img; cache = x .st .cache ++ drop m (pointers 32 c); erased = x .st .erased }) (sym (R .is))
-        ∙ ap {B = Handed} (λ (q : Entries). record { answer = r .answer; cursor = k; image = img′; cache = q; erased = r .mem .erased }) (past-pointers c (r .mem .cache) m le (R .past)) in
+        ap {B = Handed} (λ (x : End). record { answer = x .ans; cursor = k; image = x .st .img; cache = x .st .cache ++ drop m (pointers 32 c); erased = x .st .erased }) (sym R)
+        ∙ ap {B = Handed} (λ (q : Entries). record { answer = r .answer; cursor = k; image = img′; cache = q; erased = r .mem .erased }) (past-pointers c (r .mem .cache) m le P) in
         sym (passed z (pointers 32 c) ∙ rw (take-pointers c m le, ← g, ← hk) whole)
+
+  -- ---- with power
+
+  module _ (f : Geo → St → Out) (c : Cache) (p : ℕ) where
+    steps-none : d ≢ 0 → stepsBehind 4 E m v (lentOf img c) f ≡ []
+    unfolding stepsBehind
+    steps-none n = rw (← hno, ne-eqb (number no) 0 (λ z. n (hd ∙ z)))
+
+    steps-are : d ≡ 0 → (G : Geo) → G ≡ geoOf 4 E (length img) → stepsBehind 4 E m v (lentOf img c) f ≡ f G (stOf m img (record { cache = c; erased = 0 })) .steps
+    unfolding stepsBehind
+    steps-are z G g =
+        let le = fits 4 E m v img (inl refl) no d hno hd z .cached in
+        rw (← hno, eq-eqb (number no) 0 (sym hd ∙ z), take-pointers c m le, ← g)
+
+    pub refused-cut : d ≢ 0 → RunCut E m v (lentOf img c) f p p (answered no noCursor (lentOf img c))
+    refused-cut n = record { image = rw (steps-none n); left = rw (steps-none n) (sym (spend-zero p)); whole = λ q. refused f (λ G o. noCursor) noCursor n (pointers 32 c) }
+
+    pub ran-cut : d ≡ 0 → (b : ℕ) (G : Geo) → G ≡ geoOf 4 E (length img) → (img′ : List ℕ) (p′ : ℕ) (r : Run) → RunOk G m b (f G) img p img′ p′ (record { cache = c; erased = 0 }) r
+        → RunCut E m v (lentOf img c) f p p′
+        (record { answer = r .answer; cursor = noCursor; image = img′; cache = pointers 32 (r .mem .cache); erased = r .mem .erased })
+    ran-cut z b G g img′ p′ r R =
+        let s = steps-are z G g in
+        let t = thr-cut G (f G (stOf m img (record { cache = c; erased = 0 }))) img img′ p p′ (r .answer) (stOf m img′ (r .mem)) (R .is) in
+        let e : G .page ≡ E = ap (λ (x : Geo). x .page) g in
+        record {
+          image = rw (s, ← e) (t .0);
+          left = rw s (t .1);
+          whole = λ q. ran f (λ G o. noCursor) noCursor z c G g img′ r (t .2 (rw s at q)) (R .past) noCursor refl;
+        }
+
+-- with endless power a call is as it is defined
+pub whole-endless : (E : ℕ) (img : List ℕ) (steps : List FlashStep) (done t : Handed) (p p′ : ℕ) → Cut E img steps done p p′ t → endless ≤ p → t ≡ done
+whole-endless E img steps done t p p′ C h = C .whole (lasts-endless p (units steps) h)
 
 -- a call that reads only takes no cache, and leaves everything
 module _ (E : ℕ) (img : List ℕ) (no : Answer) (d : ℕ) (hno : no ≡ refusal 4 E (length img) 0 0) (hd : d ≡ number no) (f : Geo → St → Out)
@@ -94,12 +131,12 @@ module _ (G : Geo) where
       (λ q. on-starts 0 (repair G s₁) (looked G (runStart G)) looked-starts (λ e z. absurd (eqb-false (number (repair G s₁ .ans)) 0 e z))))
       (λ q. looked-starts s)
 
-  pub has-first : (n b : ℕ) (img img′ : List ℕ) (mem : Mem) (r : Run) → RunOk n b (walkStart G) img img′ mem r → HasFirst G img′ (r .answer)
-  has-first n b img img′ mem r R = record {
+  pub has-first : (n : ℕ) (img img′ : List ℕ) (mem : Mem) (r : Run) → end (r .answer) (stOf n img′ (r .mem)) ≡ final (walkStart G (stOf n img mem)) → HasFirst G img′ (r .answer)
+  has-first n img img′ mem r R = record {
     is = λ e.
-        let same : isNo 0 (walkStart G (stOf n img mem) .ans) ≡ isNo 0 (r .answer) = ap (λ (x : End). isNo 0 (x .ans)) (sym (R .is)) in
+        let same : isNo 0 (walkStart G (stOf n img mem) .ans) ≡ isNo 0 (r .answer) = ap (λ (x : End). isNo 0 (x .ans)) (sym R) in
         let page : isPage G (walkFirst G (walkStart G (stOf n img mem) .st .img)) ≡ true = walk-starts (stOf n img mem) (eqb-true _ 0 (same ∙ e)) in
-        ltb-true (walkFirst G img′) (G .pages) (ap (λ (x : End). isPage G (walkFirst G (x .st .img))) (R .is) ∙ page);
+        ltb-true (walkFirst G img′) (G .pages) (ap (λ (x : End). isPage G (walkFirst G (x .st .img))) R ∙ page);
   }
 
 pub cursor-done : (G : Geo) (a : Answer) (img : List ℕ) (d f p : ℕ) → d ≡ number a → d ≡ 0 → f ≡ walkFirst G img → p ≡ dataAt G f

@@ -5,10 +5,11 @@ use mathlib.Core.List.{List}
 use mathlib.Core.Bool.{true}
 use Rattle.rules.specs.declared.{Geo.Geo, Cursor.Cursor, Answer.Answer, Answer.the-variants.None, Answer.the-variants.Item}
 use Rattle.rules.specs.Bytes.{pick}
+use Rattle.rules.specs.Runs.{St, Out}
 use Rattle.rules.specs.Cache.{Cache as Entries}
 use Rattle.rules.specs.Answers.{isNo}
 use Rattle.rules.specs.Walk.{walkFirst, cursorAt}
-use Rattle.rules.specs.Calls.{Lent, Told as Handed, noCursor, called, fetchPlain, nextItem}
+use Rattle.rules.specs.Calls.{Call, Lent, Told as Handed, noCursor, plainly, called, fetchPlain, nextItem, stepsBehind, stepsOf, Cut}
 use Rattle.cache.specs.declared.{Cache.Cache}
 use Rattle.cache.specs.Code.{pointers}
 use Rattle.store.specs.declared.{Run.Run}
@@ -39,7 +40,15 @@ pub record PlainOk (E k : ℕ) (img : List ℕ) (a : Answer) : Type 0 where
 pub record StepOk (E : ℕ) (cur : Cursor) (img : List ℕ) (r : Next) : Type 0 where
   pub is : (m : ℕ) (c : Entries) → answered (r .answer) (r .cursor) (record { image = img; cache = c }) ≡ called 4 E m (nextItem cur) (record { image = img; cache = c })
 
+-- a call with power p
+abbrev pub CutOk : ℕ → ℕ → Call → Lent → ℕ → ℕ → Handed → Type 0
+CutOk E m c l p p′ t = Cut E (l .image) (stepsOf 4 E m c l) (called 4 E m c l) p p′ t
+
 -- ---- the inner functions
+
+-- a run f behind its refusals, with power p
+abbrev pub RunCut : ℕ → ℕ → ℕ → Lent → (Geo → St → Out) → ℕ → ℕ → Handed → Type 0
+RunCut E m v l f p p′ t = Cut E (l .image) (stepsBehind 4 E m v l f) (plainly 4 E m v l f) p p′ t
 
 abbrev pub toldRun : Run → Told
 toldRun r = record { answer = r .answer; cache = r .mem .cache; erased = r .mem .erased }

@@ -4,9 +4,9 @@ ghost use lib.ListN.{length};
 ghost use Rattle.rules.specs.Held.{Held};
 ghost use Rattle.rules.specs.Answers.{refusal};
 ghost use Rattle.rules.specs.Fetch.{view};
-ghost use Rattle.rules.specs.Calls.{plainly, called, fetchItem, storeItem, removeItem, removeAllItems, eraseAllPages, fetchAllItems};
+ghost use Rattle.rules.specs.Calls.{called, fetchItem, storeItem, removeItem, removeAllItems, eraseAllPages, fetchAllItems};
 ghost use Rattle.calls.specs.Code.{callOf};
-ghost use Rattle.map.specs.Code.{lentOf, toldOf, toldRun, PlainOk, startedOf, firstCursor, HasFirst, StepOk, steppedBy};
+ghost use Rattle.map.specs.Code.{CutOk, RunCut, lentOf, toldOf, toldRun, PlainOk, startedOf, firstCursor, HasFirst, StepOk, steppedBy};
 use cache::Cache;
 use calls::Job;
 use fetch::Mem;
@@ -72,9 +72,17 @@ fn hand_back(run: Run) -> Told
 }
 
 // A job with a cache, behind its refusals.
-fn behind(img: &mut [u8], page: usize, cache: Cache, size: usize, job: Job, value: &[u8]) -> Told
-    ensures { λ r. ⌜ toldOf (now (img .exit)) r
-        ≡ plainly 4 page size (length (now (value .entry))) (lentOf (now (img .entry)) cache) (λ G s. callOf G job (now (value .entry)) s) ⌝ }
+fn behind(
+    img: &mut [u8],
+    page: usize,
+    cache: Cache,
+    size: usize,
+    job: Job,
+    value: &[u8],
+    power: &mut usize,
+) -> Told
+    ensures { λ r. ⌜ RunCut page size (length (now (value .entry))) (lentOf (now (img .entry)) cache) (λ G s. callOf G job (now (value .entry)) s)
+        (now (power .entry)) (now (power .exit)) (toldOf (now (img .exit)) r) ⌝ }
 {
     let no = answer::refusal(4, page, img.len(), size, value.len());
     if answer::number(no) != 0 {
@@ -86,14 +94,15 @@ fn behind(img: &mut [u8], page: usize, cache: Cache, size: usize, job: Job, valu
     }
     let g = answer::geometry(4, page, img.len());
     let mem = Mem { cache, erased: 0 };
-    hand_back(calls::call(img, g, mem, size, job, value))
+    hand_back(calls::call(img, g, mem, size, job, value, power))
 }
 
 // The newest value of a key; a damaged image is repaired once.
 pub fn fetch_item(img: &mut [u8], page: usize, cache: Cache, size: usize, key: u32) -> Told
     ensures { λ r. ⌜ toldOf (now (img .exit)) r ≡ called 4 page size (fetchItem key) (lentOf (now (img .entry)) cache) ⌝ }
 {
-    behind(img, page, cache, size, Job::Fetch(key), b"")
+    let mut power = words::ENDLESS;
+    behind(img, page, cache, size, Job::Fetch(key), b"", &mut power)
 }
 
 // The newest value of a key, without a cache: a damaged image answers Corrupted, and nothing changes.
@@ -119,26 +128,91 @@ pub fn store_item(
 ) -> Told
     ensures { λ r. ⌜ toldOf (now (img .exit)) r ≡ called 4 page size (storeItem key (now (value .entry))) (lentOf (now (img .entry)) cache) ⌝ }
 {
-    behind(img, page, cache, size, Job::Store(key), value)
+    let mut power = words::ENDLESS;
+    store_item_cut(img, page, cache, size, key, value, &mut power)
+}
+
+// A store while the power lasts.
+pub fn store_item_cut(
+    img: &mut [u8],
+    page: usize,
+    cache: Cache,
+    size: usize,
+    key: u32,
+    value: &[u8],
+    power: &mut usize,
+) -> Told
+    ensures { λ r. ⌜ CutOk page size (storeItem key (now (value .entry))) (lentOf (now (img .entry)) cache)
+        (now (power .entry)) (now (power .exit)) (toldOf (now (img .exit)) r) ⌝ }
+{
+    behind(img, page, cache, size, Job::Store(key), value, power)
 }
 
 // A key is removed, with all its values.
 pub fn remove_item(img: &mut [u8], page: usize, cache: Cache, size: usize, key: u32) -> Told
     ensures { λ r. ⌜ toldOf (now (img .exit)) r ≡ called 4 page size (removeItem key) (lentOf (now (img .entry)) cache) ⌝ }
 {
-    behind(img, page, cache, size, Job::Remove(Which::Only(key)), b"")
+    let mut power = words::ENDLESS;
+    remove_item_cut(img, page, cache, size, key, &mut power)
+}
+
+// A removal while the power lasts.
+pub fn remove_item_cut(
+    img: &mut [u8],
+    page: usize,
+    cache: Cache,
+    size: usize,
+    key: u32,
+    power: &mut usize,
+) -> Told
+    ensures { λ r. ⌜ CutOk page size (removeItem key) (lentOf (now (img .entry)) cache)
+        (now (power .entry)) (now (power .exit)) (toldOf (now (img .exit)) r) ⌝ }
+{
+    let job = Job::Remove(Which::Only(key));
+    behind(img, page, cache, size, job, b"", power)
 }
 
 // All keys are removed.
 pub fn remove_all_items(img: &mut [u8], page: usize, cache: Cache, size: usize) -> Told
     ensures { λ r. ⌜ toldOf (now (img .exit)) r ≡ called 4 page size removeAllItems (lentOf (now (img .entry)) cache) ⌝ }
 {
-    behind(img, page, cache, size, Job::Remove(Which::Every), b"")
+    let mut power = words::ENDLESS;
+    remove_all_items_cut(img, page, cache, size, &mut power)
+}
+
+// A removal of all keys while the power lasts.
+pub fn remove_all_items_cut(
+    img: &mut [u8],
+    page: usize,
+    cache: Cache,
+    size: usize,
+    power: &mut usize,
+) -> Told
+    ensures { λ r. ⌜ CutOk page size removeAllItems (lentOf (now (img .entry)) cache)
+        (now (power .entry)) (now (power .exit)) (toldOf (now (img .exit)) r) ⌝ }
+{
+    let job = Job::Remove(Which::Every);
+    behind(img, page, cache, size, job, b"", power)
 }
 
 // All pages are erased.
 pub fn erase_all(img: &mut [u8], page: usize, cache: Cache, size: usize) -> Told
     ensures { λ r. ⌜ toldOf (now (img .exit)) r ≡ called 4 page size eraseAllPages (lentOf (now (img .entry)) cache) ⌝ }
+{
+    let mut power = words::ENDLESS;
+    erase_all_cut(img, page, cache, size, &mut power)
+}
+
+// All pages are erased while the power lasts.
+pub fn erase_all_cut(
+    img: &mut [u8],
+    page: usize,
+    cache: Cache,
+    size: usize,
+    power: &mut usize,
+) -> Told
+    ensures { λ r. ⌜ CutOk page size eraseAllPages (lentOf (now (img .entry)) cache)
+        (now (power .entry)) (now (power .exit)) (toldOf (now (img .exit)) r) ⌝ }
 {
     let no = answer::refusal(4, page, img.len(), size, 0);
     if answer::number(no) != 0 {
@@ -150,7 +224,7 @@ pub fn erase_all(img: &mut [u8], page: usize, cache: Cache, size: usize) -> Told
     }
     let g = answer::geometry(4, page, img.len());
     let mem = Mem { cache, erased: 0 };
-    hand_back(remove::erase_all(img, g, mem, size))
+    hand_back(remove::erase_all(img, g, mem, size, power))
 }
 
 // The cursor of a walk's start with this answer: where it is done, at the data of the first page.
@@ -193,7 +267,8 @@ pub fn fetch_all_items(img: &mut [u8], page: usize, cache: Cache, size: usize) -
     }
     let g = answer::geometry(4, page, img.len());
     let mem = Mem { cache, erased: 0 };
-    let run = calls::call(img, g, mem, size, Job::Start, b"");
+    let mut power = words::ENDLESS;
+    let run = calls::call(img, g, mem, size, Job::Start, b"", &mut power);
     let m = run.mem;
     let c = m.cache;
     let a = run.answer;

@@ -1,18 +1,17 @@
 -- A run that repairs once, from the runs it is made of; the same for every call.
-use mathlib.Core.Path.{_≡_, refl, ap, sym, _∙_}
+use mathlib.Core.Path.{_≡_}
 use mathlib.Core.Bool.{Bool, true, false}
 use Prim.Native.Nat.{ℕ, _+_}
 use native.Mathlib.Omega.{arith}
 use mathlib.Core.List.{List}
-use borrow.Author.Tests.{eqb-true, eqb-false}
 use Rattle.rules.specs.declared.{Geo.Geo, Answer.the-variants.Corrupted}
 use Rattle.rules.specs.Bytes.{pick}
 use Rattle.rules.specs.Pages.{anyCorrupted}
 use Rattle.rules.specs.Cache.{clear}
-use Rattle.rules.specs.Answers.{number, isNo}
-use Rattle.rules.specs.Runs.{St, Out, out, End, end, final, cleared, clearCorrupted, onDone}
+use Rattle.rules.specs.Answers.{isNo}
+use Rattle.rules.specs.Runs.{St, Out, out, cleared, clearCorrupted, onDone}
 use Rattle.rules.specs.Store.{repair, looked, autoRepair}
-use Rattle.laws.specs.RunLaws.{on-yes, on-no}
+use Rattle.laws.specs.Through.{Through, thr-refl, thr-to, thr-then, thr-on}
 use Rattle.cache.specs.Code.{pointers}
 use Rattle.fetch.specs.declared.{Mem.Mem}
 use Rattle.fetch.specs.Code.{stOf, Kept}
@@ -23,12 +22,12 @@ use Rattle.mend.specs.Code.{SettledOk, againOf}
 
 -- ---- the look at all page states
 
-module _ (G : Geo) (n b : ℕ) (f : St → Out) (img : List ℕ) (mem : Mem) (t : Bool) (ht : t ≡ anyCorrupted G img) where
-  pub looked-bad : t ≡ true → RunOk n b (looked G f) img img mem (record { mem = mem; answer = Corrupted })
-  looked-bad e = record { is = rw (← ht, e); past = past-refl n (mem .cache); erased = omega arith }
+module _ (G : Geo) (n b : ℕ) (f : St → Out) (img : List ℕ) (p : ℕ) (mem : Mem) (t : Bool) (ht : t ≡ anyCorrupted G img) where
+  pub looked-bad : t ≡ true → RunOk G n b (looked G f) img p img p mem (record { mem = mem; answer = Corrupted })
+  looked-bad e = record { is = rw (← ht, e) (thr-refl G (out Corrupted (stOf n img mem)) img p); past = past-refl n (mem .cache); erased = omega arith }
 
-  pub looked-run : (img′ : List ℕ) (r : Run) → t ≡ false → RunOk n b f img img′ mem r → RunOk n b (looked G f) img img′ mem r
-  looked-run img′ r e R = record { is = rw (← ht, e) (R .is); past = R .past; erased = R .erased }
+  pub looked-run : (img′ : List ℕ) (p′ : ℕ) (r : Run) → t ≡ false → RunOk G n b f img p img′ p′ mem r → RunOk G n b (looked G f) img p img′ p′ mem r
+  looked-run img′ p′ r e R = record { is = rw (← ht, e) (R .is); past = R .past; erased = R .erased }
 
 -- ---- no. 8 leaves the cache empty
 
@@ -40,73 +39,50 @@ module _ (n : ℕ) (run : Run) (b : Bool) (hb : b ≡ isNo 8 (run .answer)) wher
   pub settle-no : b ≡ false → SettledOk n run (record { mem = run .mem; answer = run .answer })
   settle-no e = record { is = λ img. rw (← hb, e); kept = kept-refl n (run .mem) }
 
-settled : (n : ℕ) (o : Out) (img : List ℕ) (run r : Run) → end (run .answer) (stOf n img (run .mem)) ≡ final o → SettledOk n run r
-    → end (r .answer) (stOf n img (r .mem)) ≡ final (clearCorrupted o)
-settled n o img run r e S = S .is img ∙ go (isNo 8 (run .answer)) refl
-  where
-    num : number (o .ans) ≡ number (run .answer)
-    num = ap (λ (x : End). number (x .ans)) (sym e)
-
-    go : (b : Bool) → isNo 8 (run .answer) ≡ b
-        → pick b (end Corrupted (cleared (stOf n img (run .mem)))) (end (run .answer) (stOf n img (run .mem))) ≡ final (clearCorrupted o)
-    go true q =
-        sym (ap final (on-yes 8 o (λ s. out Corrupted (cleared s)) (num ∙ eqb-true (number (run .answer)) 8 q)) ∙ ap (λ (x : End). end Corrupted (cleared (x .st))) (sym e))
-    go false q =
-        e ∙ sym (ap final (on-no 8 o (λ s. out Corrupted (cleared s)) (λ z. eqb-false (number (run .answer)) 8 q (sym num ∙ z))))
+settled : (G : Geo) (n : ℕ) (o : Out) (img img′ : List ℕ) (p p′ : ℕ) (run r : Run) → Through G o img p img′ p′ (out (run .answer) (stOf n img′ (run .mem))) → SettledOk n run r
+    → Through G (clearCorrupted o) img p img′ p′ (out (r .answer) (stOf n img′ (r .mem)))
+settled G n o img img′ p p′ run r T S =
+    thr-to G (thr-on G 8 o (λ s. out Corrupted (cleared s)) img img′ p p′ (run .answer) (stOf n img′ (run .mem)) T) (S .is img′)
 
 -- ---- the repair and the run after it
 
-module _ (G : Geo) (n b c : ℕ) (f : St → Out) (img img₁ : List ℕ) (mem : Mem) (r₁ : Run) (R₁ : RunOk n c (repair G) img img₁ mem r₁) where
+module _ (G : Geo) (n b c : ℕ) (f : St → Out) (img img₁ : List ℕ) (p p₁ : ℕ) (mem : Mem) (r₁ : Run) (R₁ : RunOk G n c (repair G) img p img₁ p₁ mem r₁) where
   abbrev mends : Out
   mends = repair G (stOf n img mem)
 
-  -- the repair is corrupt: there is no second run
-  pub again-bad : (r : Run) → isNo 0 (r₁ .answer) ≡ false → SettledOk n r₁ r → RunOk n (c + b) (againOf G f) img img₁ mem r
-  again-bad r e S =
-      let num : number (mends .ans) ≡ number (r₁ .answer) = ap (λ (x : End). number (x .ans)) (sym (R₁ .is)) in
-      let o : onDone mends (looked G f) ≡ mends = on-no 0 mends (looked G f) (λ z. eqb-false (number (r₁ .answer)) 0 e (sym num ∙ z)) in
-      record {
-        is = settled n (onDone mends (looked G f)) img₁ r₁ r (R₁ .is ∙ ap final (sym o)) S;
-        past = past-trans n (mem .cache) (r₁ .mem .cache) (r .mem .cache) (R₁ .past) (S .kept .past);
-        erased = omega (arith, R₁ .erased, S .kept .erased);
-      }
+  both-are : Through G (onDone mends (looked G f)) img p img₁ p₁ (pick (isNo 0 (r₁ .answer)) (looked G f (stOf n img₁ (r₁ .mem))) (out (r₁ .answer) (stOf n img₁ (r₁ .mem))))
+  both-are = thr-on G 0 mends (looked G f) img img₁ p p₁ (r₁ .answer) (stOf n img₁ (r₁ .mem)) (R₁ .is)
 
-  pub again-run : (img₂ : List ℕ) (r₂ r : Run) → isNo 0 (r₁ .answer) ≡ true → RunOk n b (looked G f) img₁ img₂ (r₁ .mem) r₂ → SettledOk n r₂ r
-      → RunOk n (c + b) (againOf G f) img img₂ mem r
-  again-run img₂ r₂ r e R₂ S =
-      let num : number (mends .ans) ≡ number (r₁ .answer) = ap (λ (x : End). number (x .ans)) (sym (R₁ .is)) in
-      let o : final (onDone mends (looked G f)) ≡ final (looked G f (mends .st)) =
-      ap final (on-yes 0 mends (looked G f) (num ∙ eqb-true (number (r₁ .answer)) 0 e)) in
-      let s : mends .st ≡ stOf n img₁ (r₁ .mem) = ap (λ (x : End). x .st) (sym (R₁ .is)) in
-      record {
-        is = settled n (onDone mends (looked G f)) img₂ r₂ r (R₂ .is ∙ sym (o ∙ ap (λ (x : St). final (looked G f x)) s)) S;
-        past = past-trans n (mem .cache) (r₁ .mem .cache) (r .mem .cache) (R₁ .past) (past-trans n (r₁ .mem .cache) (r₂ .mem .cache) (r .mem .cache) (R₂ .past) (S .kept .past));
-        erased = omega (arith, R₁ .erased, R₂ .erased, S .kept .erased);
-      }
+  -- the repair is corrupt: there is no second run
+  pub again-bad : (r : Run) → isNo 0 (r₁ .answer) ≡ false → SettledOk n r₁ r → RunOk G n (c + b) (againOf G f) img p img₁ p₁ mem r
+  again-bad r e S = record {
+    is = settled G n (onDone mends (looked G f)) img img₁ p p₁ r₁ r (thr-to G both-are (rw e)) S;
+    past = past-trans n (mem .cache) (r₁ .mem .cache) (r .mem .cache) (R₁ .past) (S .kept .past);
+    erased = omega (arith, R₁ .erased, S .kept .erased);
+  }
+
+  pub again-run : (img₂ : List ℕ) (p₂ : ℕ) (r₂ r : Run) → isNo 0 (r₁ .answer) ≡ true → RunOk G n b (looked G f) img₁ p₁ img₂ p₂ (r₁ .mem) r₂ → SettledOk n r₂ r
+      → RunOk G n (c + b) (againOf G f) img p img₂ p₂ mem r
+  again-run img₂ p₂ r₂ r e R₂ S = record {
+    is = settled G n (onDone mends (looked G f)) img img₂ p p₂ r₂ r (thr-then G (thr-to G both-are (rw e)) (R₂ .is)) S;
+    past = past-trans n (mem .cache) (r₁ .mem .cache) (r .mem .cache) (R₁ .past) (past-trans n (r₁ .mem .cache) (r₂ .mem .cache) (r .mem .cache) (R₂ .past) (S .kept .past));
+    erased = omega (arith, R₁ .erased, R₂ .erased, S .kept .erased);
+  }
 
 -- ---- a run that repairs once on Corrupted and runs again
 
-module _ (G : Geo) (n b c : ℕ) (f : St → Out) (img img₁ : List ℕ) (mem : Mem) (r₁ : Run) (R₁ : RunOk n b (looked G f) img img₁ mem r₁) where
-  abbrev runs : Out
-  runs = looked G f (stOf n img mem)
-
-  num : number (runs .ans) ≡ number (r₁ .answer)
-  num = ap (λ (x : End). number (x .ans)) (sym (R₁ .is))
-
-  pub auto-first : isNo 8 (r₁ .answer) ≡ false → RunOk n (b + (c + b)) (autoRepair G f) img img₁ mem r₁
+module _ (G : Geo) (n b c : ℕ) (f : St → Out) (img img₁ : List ℕ) (p p₁ : ℕ) (mem : Mem) (r₁ : Run) (R₁ : RunOk G n b (looked G f) img p img₁ p₁ mem r₁) where
+  first-is : Through G (autoRepair G f (stOf n img mem)) img p img₁ p₁ (pick (isNo 8 (r₁ .answer)) (againOf G f (stOf n img₁ (r₁ .mem))) (out (r₁ .answer) (stOf n img₁ (r₁ .mem))))
   unfolding autoRepair
-  auto-first e = record {
-    is = R₁ .is ∙ sym (ap final (on-no 8 runs (againOf G f) (λ z. eqb-false (number (r₁ .answer)) 8 e (sym num ∙ z))));
-    past = R₁ .past;
-    erased = omega (arith, R₁ .erased);
+  first-is = thr-on G 8 (looked G f (stOf n img mem)) (againOf G f) img img₁ p p₁ (r₁ .answer) (stOf n img₁ (r₁ .mem)) (R₁ .is)
+
+  pub auto-first : isNo 8 (r₁ .answer) ≡ false → RunOk G n (b + (c + b)) (autoRepair G f) img p img₁ p₁ mem r₁
+  auto-first e = record { is = thr-to G first-is (rw e); past = R₁ .past; erased = omega (arith, R₁ .erased) }
+
+  pub auto-again : (img₂ : List ℕ) (p₂ : ℕ) (r : Run) → isNo 8 (r₁ .answer) ≡ true → RunOk G n (c + b) (againOf G f) img₁ p₁ img₂ p₂ (r₁ .mem) r
+      → RunOk G n (b + (c + b)) (autoRepair G f) img p img₂ p₂ mem r
+  auto-again img₂ p₂ r e R = record {
+    is = thr-then G (thr-to G first-is (rw e)) (R .is);
+    past = past-trans n (mem .cache) (r₁ .mem .cache) (r .mem .cache) (R₁ .past) (R .past);
+    erased = omega (arith, R₁ .erased, R .erased);
   }
-
-  pub auto-again : (img₂ : List ℕ) (r : Run) → isNo 8 (r₁ .answer) ≡ true → RunOk n (c + b) (againOf G f) img₁ img₂ (r₁ .mem) r → RunOk n (b + (c + b)) (autoRepair G f) img img₂ mem r
-  unfolding autoRepair
-  auto-again img₂ r e R =
-      let s : runs .st ≡ stOf n img₁ (r₁ .mem) = ap (λ (x : End). x .st) (sym (R₁ .is)) in
-      record {
-        is = R .is ∙ sym (ap final (on-yes 8 runs (againOf G f) (num ∙ eqb-true (number (r₁ .answer)) 8 e)) ∙ ap (λ (x : St). final (againOf G f x)) s);
-        past = past-trans n (mem .cache) (r₁ .mem .cache) (r .mem .cache) (R₁ .past) (R .past);
-        erased = omega (arith, R₁ .erased, R .erased);
-      }

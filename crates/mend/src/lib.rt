@@ -12,12 +12,12 @@ use rules::PageState;
 use store::Run;
 
 // Erases page p if it is corrupted.
-fn erase_one(img: &mut [u8], g: Geo, mem: Mem, p: usize) -> Mem
+fn erase_one(img: &mut [u8], g: Geo, mem: Mem, p: usize, power: &mut usize) -> Mem
     requires { ⌜ Held g (length (now img)) × (p < g .pages) × (mem .erased < 2 ^ 32) ⌝ }
-    ensures { λ r. ⌜ OneOk g (now (img .entry)) (now (img .exit)) mem r p ⌝ }
+    ensures { λ r. ⌜ OneOk g (now (img .entry)) (now (power .entry)) (now (img .exit)) (now (power .exit)) mem r p ⌝ }
 {
     if ring::page_is(img, g, p, PageState::Corrupted) {
-        ring::erase_page(img, g, p);
+        ring::erase_page(img, g, p, power);
         let c = mem.cache;
         let erased = mem.erased + 1;
         return Mem { cache: c, erased };
@@ -26,15 +26,15 @@ fn erase_one(img: &mut [u8], g: Geo, mem: Mem, p: usize) -> Mem
 }
 
 // Erases each corrupted page.
-fn erase_corrupted(img: &mut [u8], g: Geo, mem: Mem) -> Mem
+fn erase_corrupted(img: &mut [u8], g: Geo, mem: Mem, power: &mut usize) -> Mem
     requires { ⌜ Held g (length (now img)) × (mem .erased < 2 ^ 31) ⌝ }
-    ensures { λ r. ⌜ ErasedOk g (now (img .entry)) (now (img .exit)) mem r ⌝ }
+    ensures { λ r. ⌜ ErasedOk g (now (img .entry)) (now (power .entry)) (now (img .exit)) (now (power .exit)) mem r ⌝ }
 {
     let n = g.pages;
     let mut held = mem;
     let mut p: usize = 0;
     while p < n {
-        let m = erase_one(img, g, held, p);
+        let m = erase_one(img, g, held, p, power);
         held = m;
         p += 1;
     }
@@ -42,16 +42,16 @@ fn erase_corrupted(img: &mut [u8], g: Geo, mem: Mem) -> Mem
 }
 
 // A migration that was cut: erases the PartialOpen page p, marks it, and migrates again.
-fn redo(img: &mut [u8], g: Geo, mem: Mem, slots: usize, p: usize) -> Run
+fn redo(img: &mut [u8], g: Geo, mem: Mem, slots: usize, p: usize, power: &mut usize) -> Run
     requires { ⌜ Held g (length (now img)) × (slots ≤ 32) × (p < g .pages) × (mem .erased < 2 ^ 31 + 256) ⌝ }
-    ensures { λ r. ⌜ RunOk slots 2 (redoOf g p) (now (img .entry)) (now (img .exit)) mem r ⌝ }
+    ensures { λ r. ⌜ RunOk g slots 2 (redoOf g p) (now (img .entry)) (now (power .entry)) (now (img .exit)) (now (power .exit)) mem r ⌝ }
 {
-    ring::erase_page(img, g, p);
-    ring::mark_start(img, g, p);
+    ring::erase_page(img, g, p, power);
+    ring::mark_start(img, g, p, power);
     let c = mem.cache;
     let erased = mem.erased + 1;
     let m = Mem { cache: c, erased };
-    let r = migrate::migrate_items(img, g, m, slots, ring::next(g, p), p);
+    let r = migrate::migrate_items(img, g, m, slots, ring::next(g, p), p, power);
     let h = r.mem;
     if r.ok {
         return Run {
@@ -66,9 +66,9 @@ fn redo(img: &mut [u8], g: Geo, mem: Mem, slots: usize, p: usize) -> Run
 }
 
 // Redoes the migration into the first PartialOpen page if the page after it is not Open.
-fn mend(img: &mut [u8], g: Geo, mem: Mem, slots: usize) -> Run
+fn mend(img: &mut [u8], g: Geo, mem: Mem, slots: usize, power: &mut usize) -> Run
     requires { ⌜ Held g (length (now img)) × (slots ≤ 32) × (mem .erased < 2 ^ 31 + 256) ⌝ }
-    ensures { λ r. ⌜ RunOk slots 2 (mend g) (now (img .entry)) (now (img .exit)) mem r ⌝ }
+    ensures { λ r. ⌜ RunOk g slots 2 (mend g) (now (img .entry)) (now (power .entry)) (now (img .exit)) (now (power .exit)) mem r ⌝ }
 {
     let p = ring::first(img, g, PageState::PartialOpen);
     if p < g.pages {
@@ -78,7 +78,7 @@ fn mend(img: &mut [u8], g: Geo, mem: Mem, slots: usize) -> Run
                 answer: Answer::Done,
             };
         }
-        return redo(img, g, mem, slots, p);
+        return redo(img, g, mem, slots, p, power);
     }
     Run {
         mem,
@@ -87,13 +87,13 @@ fn mend(img: &mut [u8], g: Geo, mem: Mem, slots: usize) -> Run
 }
 
 // Empties the cache, erases each corrupted page, and redoes a migration that was cut.
-pub fn try_repair(img: &mut [u8], g: Geo, mem: Mem, slots: usize) -> Run
+pub fn try_repair(img: &mut [u8], g: Geo, mem: Mem, slots: usize, power: &mut usize) -> Run
     requires { ⌜ Held g (length (now img)) × (slots ≤ 32) × (mem .erased < 2 ^ 31) ⌝ }
-    ensures { λ r. ⌜ RunOk slots (g .pages + 2) (repair g) (now (img .entry)) (now (img .exit)) mem r ⌝ }
+    ensures { λ r. ⌜ RunOk g slots (g .pages + 2) (repair g) (now (img .entry)) (now (power .entry)) (now (img .exit)) (now (power .exit)) mem r ⌝ }
 {
     let m = fetch::empty(mem, slots);
-    let h = erase_corrupted(img, g, m);
-    mend(img, g, h, slots)
+    let h = erase_corrupted(img, g, m, power);
+    mend(img, g, h, slots, power)
 }
 
 // No. 8 leaves the cache empty.

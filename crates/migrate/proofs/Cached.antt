@@ -9,7 +9,8 @@ use lib.ListN.{length, getD, take, drop}
 use borrow.Author.Tests.{eq-eqb, eqb-false}
 use Rattle.rules.specs.declared.{Geo.Geo}
 use lib.Dec.{leb, ltb, eqb}
-use Rattle.rules.specs.Bytes.{pick, both, allFF, program}
+use Rattle.rules.specs.Bytes.{pick, both, allFF}
+use Rattle.laws.specs.Power.{Wrote}
 use Rattle.rules.specs.Held.{Held}
 use Rattle.rules.specs.Items.{Item as ItemOfRules, Reading, stop, skip, item, itemOf, isPresent, read, size, pad}
 use Rattle.rules.specs.Pages.{dataAt, endAt}
@@ -65,26 +66,26 @@ hit-place G img k x p l q =
 
 module _ (G : Geo) (n : ℕ) (img ks ps : List ℕ) (a e L wp : ℕ) (lk : length ks ≡ 32) (lp : length ps ≡ 32) where
   -- the cache settles it
-  settled : (img′ ks′ ps′ : List ℕ) (t : ℕ)
-      → ((erased : ℕ) → ItemOk G n img img′ (memOf ks ps erased) a e L wp (record { mem = memOf ks′ ps′ erased; to = t; ok = true }))
-      → length ks′ ≡ 32 → length ps′ ≡ 32 → StepOk G n img img′ ks ks′ ps ps′ a e L wp (To t)
-  settled img′ ks′ ps′ t M lk′ lp′ = record {
+  settled : (img′ : List ℕ) (p p′ : ℕ) (ks′ ps′ : List ℕ) (t : ℕ)
+      → ((erased : ℕ) → ItemOk G n img p img′ p′ (memOf ks ps erased) a e L wp (record { mem = memOf ks′ ps′ erased; to = t; ok = true }))
+      → length ks′ ≡ 32 → length ps′ ≡ 32 → StepOk G n img p img′ p′ ks ks′ ps ps′ a e L wp (To t)
+  settled img′ p p′ ks′ ps′ t M lk′ lp′ = record {
     to = λ u erased q. let z : t ≡ u = cc in rw (← z) (M erased);
     ask = λ q. let z : _≡_ {A = ℕ} 0 1 = cc in absurd (omega arith);
     long = (lk′, lp′);
   }
 
   -- the fetch is asked
-  pub asked : (b : Bool) → b ≡ isPresent (itemOf (part img a e) L .kind) → b ≡ true → 4 ≤ L → StepOk G n img img ks ks ps ps a e L wp Ask
-  asked b p t h = record {
+  pub asked : (p : ℕ) (b : Bool) → b ≡ isPresent (itemOf (part img a e) L .kind) → b ≡ true → 4 ≤ L → StepOk G n img p img p ks ks ps ps a e L wp Ask
+  asked pw b p t h = record {
     to = λ u erased q. let z : _≡_ {A = ℕ} 0 1 = cc in absurd (omega arith);
-    ask = λ q. (refl, refl, refl, sym p ∙ t, h);
+    ask = λ q. (refl, refl, refl, sym p ∙ t, h, refl);
     long = (lk, lp);
   }
 
   -- not Present
-  pub passed : (b : Bool) → b ≡ isPresent (itemOf (part img a e) L .kind) → not b ≡ true → StepOk G n img img ks ks ps ps a e L wp (To wp)
-  passed b p f = settled img ks ps wp (λ erased. item-not G n img (memOf ks ps erased) a e L wp (sym (no b f) ∙ p)) lk lp
+  pub passed : (p : ℕ) (b : Bool) → b ≡ isPresent (itemOf (part img a e) L .kind) → not b ≡ true → StepOk G n img p img p ks ks ps ps a e L wp (To wp)
+  passed pw b p f = settled img pw pw ks ps wp (λ erased. item-not G n img (memOf ks ps erased) a e L wp pw (sym (no b f) ∙ p)) lk lp
 
   module _ (key x : ℕ) (hk : key ≡ itemOf (part img a e) L .key) (hx : x ≡ lookup key (pointers n (arrays ks ps))) (nz : x ≢ 0)
       (b : Bool) (pr : b ≡ isPresent (itemOf (part img a e) L .kind)) (tr : b ≡ true) where
@@ -94,12 +95,12 @@ module _ (G : Geo) (n : ℕ) (img ks ps : List ℕ) (a e L wp : ℕ) (lk : lengt
     got erased p l q = fetch-hit G key n img (memOf ks ps erased) x hx p l nz q
 
     -- the newest is elsewhere
-    pub elsewhere : (p l : ℕ) → At p l ≡ told (hit G img key x) → x ≢ a → StepOk G n img img ks ks ps ps a e L wp (To wp)
-    elsewhere p l q ne =
-        settled img ks ps wp (λ erased.
-        item-one G n img (memOf ks ps erased) a e L wp img (record { mem = memOf ks ps erased; to = wp; ok = true }) (sym tr ∙ pr)
+    pub elsewhere : (pw p l : ℕ) → At p l ≡ told (hit G img key x) → x ≢ a → StepOk G n img pw img pw ks ks ps ps a e L wp (To wp)
+    elsewhere pw p l q ne =
+        settled img pw pw ks ps wp (λ erased.
+        item-one G n img (memOf ks ps erased) a e L wp img pw pw (record { mem = memOf ks ps erased; to = wp; ok = true }) (sym tr ∙ pr)
         (move-not G n img (memOf ks ps erased) a e L wp key (record { mem = memOf ks ps erased; spot = At p l }) hk (got erased p l q)
-        (kept-refl n (memOf ks ps erased)) p l refl (λ z. ne (sym (hit-place G img key x p l q) ∙ z)))) lk lp
+        (kept-refl n (memOf ks ps erased)) pw p l refl (λ z. ne (sym (hit-place G img key x p l q) ∙ z)))) lk lp
 
     module _ (h : Held G (length img)) (y : Lies G a e) (here : x ≡ a) (ha : a + size (G .word) L ≤ e) (hl : a + 8 + L ≤ length img)
         (hr : readOf (part img a e) (Item L) ≡ read (G .word) (part img a e))
@@ -113,16 +114,16 @@ module _ (G : Geo) (n : ℕ) (img ks ps : List ℕ) (a e L wp : ℕ) (lk : lengt
 
       -- the newest is here, and the target is blank
       pub copied-here : (span : ℕ) (c : Bool) → span ≡ size (G .word) L → c ≡ allFF (take (wp + span - wp) (drop wp img)) → c ≡ true
-          → (img′ ks′ ps′ : List ℕ) → NotedOk n key wp (arrays ks ps) (arrays ks′ ps′)
-          → img′ ≡ program img wp (take (8 + L) (drop a img) ++ pad (G .word) L)
-          → StepOk G n img img′ ks ks′ ps ps′ a e L wp (To (wp + span))
-      copied-here span c hs hc t img′ ks′ ps′ N q =
-          settled img′ ks′ ps′ (wp + span) (λ erased.
+          → (img′ : List ℕ) (pw pw′ : ℕ) (ks′ ps′ : List ℕ) → NotedOk n key wp (arrays ks ps) (arrays ks′ ps′)
+          → Wrote img pw img′ pw′ wp (take (8 + L) (drop a img) ++ pad (G .word) L)
+          → StepOk G n img pw img′ pw′ ks ks′ ps ps′ a e L wp (To (wp + span))
+      copied-here span c hs hc t img′ pw pw′ ks′ ps′ N q =
+          settled img′ pw pw′ ks′ ps′ (wp + span) (λ erased.
           let r : Moved = record { mem = memOf ks′ ps′ erased; to = wp + span; ok = true } in
-          let C = copy-yes G n img (memOf ks ps erased) key a L wp span c hs hc (memOf ks′ ps′ erased) (N .noted) (record { past = N .past; erased = refl }) img′ t q in
-          item-one G n img (memOf ks ps erased) a e L wp img′ r (sym tr ∙ pr)
+          let C = copy-yes G n img (memOf ks ps erased) key a L wp span c hs hc pw pw′ (memOf ks′ ps′ erased) (N .noted) (record { past = N .past; erased = refl }) img′ t q in
+          item-one G n img (memOf ks ps erased) a e L wp img′ pw pw′ r (sym tr ∙ pr)
           (move-copy G n img (memOf ks ps erased) a e L wp key (record { mem = memOf ks ps erased; spot = At a L }) hk (got erased a L own-hit)
-          (kept-refl n (memOf ks ps erased)) img′ r C (omega (arith, h .low)) ha hl hwp apart a L refl refl)) (N .keys-long) (N .places-long)
+          (kept-refl n (memOf ks ps erased)) img′ pw pw′ r C (omega (arith, h .low)) ha hl hwp apart a L refl refl)) (N .keys-long) (N .places-long)
 
 -- ---- a page's first place, and the place after what is read
 

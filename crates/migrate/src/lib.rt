@@ -6,8 +6,8 @@ ghost use Prim.Native.Nat.{_+_, _-_, _^_, _≤_, _<_};
 ghost use lib.ListN.{length};
 ghost use Rattle.rules.specs.Held.{Held};
 ghost use Rattle.rules.specs.Items.{read, size};
-ghost use Rattle.rules.specs.Runs.{final};
 ghost use Rattle.rules.specs.Store.{migrate};
+ghost use Rattle.laws.specs.Through.{Through};
 ghost use Rattle.items.specs.declared.{Read.the-variants.Item};
 ghost use Rattle.items.specs.Code.{part, readOf};
 ghost use Rattle.cache.specs.Code.{Past};
@@ -43,15 +43,16 @@ fn copy_one(
     at: usize,
     len: usize,
     to: usize,
+    power: &mut usize,
 ) -> Moved
     requires { ⌜ Held g (length (now img)) × (slots ≤ 32) × (len < 65536) × (at + size (g .word) len ≤ length (now img)) × (to + size (g .word) len ≤ length (now img))
         × ((at + 8 + len ≤ to) ⊎ (to + size (g .word) len ≤ at)) ⌝ }
-    ensures { λ r. ⌜ CopiedOk g slots (now (img .entry)) (now (img .exit)) mem key at len to r ⌝ }
+    ensures { λ r. ⌜ CopiedOk g slots (now (img .entry)) (now (power .entry)) (now (img .exit)) (now (power .exit)) mem key at len to r ⌝ }
 {
     let span = words::size(g.word, len);
     if words::all_ff(&img[to..to + span]) {
         let m = fetch::note(mem, slots, key, to as u32);
-        write::copy_item(img, at, len, to, g.word);
+        write::copy_item(img, at, len, to, g.word, power);
         return Moved {
             mem: m,
             to: to + span,
@@ -71,10 +72,11 @@ fn migrate_one(
     e: usize,
     len: usize,
     to: usize,
+    power: &mut usize,
 ) -> Moved
     requires { ⌜ Held g (length (now img)) × (slots ≤ 32) × (4 ≤ len) × (len < 65536) × (at + size (g .word) len ≤ e) × (e ≤ length (now img))
         × (to + size (g .word) len ≤ length (now img)) × ((to + size (g .word) len ≤ at) ⊎ (e ≤ to)) ⌝ }
-    ensures { λ r. ⌜ MovedOk g slots (now (img .entry)) (now (img .exit)) mem at e len to r ⌝ }
+    ensures { λ r. ⌜ MovedOk g slots (now (img .entry)) (now (power .entry)) (now (img .exit)) (now (power .exit)) mem at e len to r ⌝ }
 {
     let key = items::key(&img[at..e], len);
     let f = fetch::fetch_in(img, g, mem, slots, key);
@@ -105,7 +107,7 @@ fn migrate_one(
             }
         }
     }
-    copy_one(img, g, m, slots, key, at, len, to)
+    copy_one(img, g, m, slots, key, at, len, to, power)
 }
 
 // What the cache alone settles: an item that is not Present, or whose newest is elsewhere, stays; one whose newest is at its own
@@ -120,11 +122,12 @@ fn move_cached(
     e: usize,
     len: usize,
     to: usize,
+    power: &mut usize,
 ) -> Step
     requires { ⌜ Held g (length (now img)) × (length (now keys) ≡ 32) × (length (now places) ≡ 32) × (slots ≤ 32) × Lies g at e
         × (readOf (part (now img) at e) (Item len) ≡ read (g .word) (part (now img) at e)) × (len < 65536) × (at + size (g .word) len ≤ e) × (e ≤ length (now img))
         × (to + size (g .word) len ≤ length (now img)) × ((to + size (g .word) len ≤ at) ⊎ (e ≤ to)) ⌝ }
-    ensures { λ r. ⌜ StepOk g slots (now (img .entry)) (now (img .exit)) (now (keys .entry)) (now (keys .exit)) (now (places .entry)) (now (places .exit)) at e len to r ⌝ }
+    ensures { λ r. ⌜ StepOk g slots (now (img .entry)) (now (power .entry)) (now (img .exit)) (now (power .exit)) (now (keys .entry)) (now (keys .exit)) (now (places .entry)) (now (places .exit)) at e len to r ⌝ }
 {
     if !items::present(&img[at..e], len) {
         return Step::To(to);
@@ -146,7 +149,7 @@ fn move_cached(
         return Step::Ask;
     }
     cache::renew(keys, places, slots, i, key, to as u32);
-    write::copy_item(img, at, len, to, g.word);
+    write::copy_item(img, at, len, to, g.word, power);
     Step::To(to + span)
 }
 
@@ -171,9 +174,10 @@ fn migrate_all(
     a: usize,
     e: usize,
     to: usize,
+    power: &mut usize,
 ) -> Moved
     requires { ⌜ Held g (length (now img)) × (slots ≤ 32) × Lies g a e × (a ≤ e) × (e ≤ length (now img)) × (to + (e - a) ≤ length (now img)) × ((to + (e - a) ≤ a) ⊎ (e ≤ to)) ⌝ }
-    ensures { λ r. ⌜ AllOk g slots (now (img .entry)) (now (img .exit)) mem a e to r ⌝ }
+    ensures { λ r. ⌜ AllOk g slots (now (img .entry)) (now (power .entry)) (now (img .exit)) (now (power .exit)) mem a e to r ⌝ }
 {
     let w = g.word;
     let c = mem.cache;
@@ -192,7 +196,7 @@ fn migrate_all(
             }
             Read::Item(len) => {
                 let next = at + words::size(w, len);
-                let s = move_cached(img, g, &mut keys, &mut places, slots, at, e, len, wp);
+                let s = move_cached(img, g, &mut keys, &mut places, slots, at, e, len, wp, power);
                 if let Step::To(t) = s {
                     wp = t;
                     at = next;
@@ -200,7 +204,7 @@ fn migrate_all(
                 }
                 let cache = Cache { keys, places };
                 let erased = mem.erased;
-                let m = migrate_one(img, g, Mem { cache, erased }, slots, at, e, len, wp);
+                let m = migrate_one(img, g, Mem { cache, erased }, slots, at, e, len, wp, power);
                 if m.ok {
                     let h = m.mem;
                     let d = h.cache;
@@ -225,18 +229,19 @@ pub fn migrate_items(
     slots: usize,
     source: usize,
     target: usize,
+    power: &mut usize,
 ) -> Moved
     requires { ⌜ Held g (length (now img)) × (slots ≤ 32) × (source < g .pages) × (target < g .pages) × ((source < target) ⊎ (target < source)) × (mem .erased < 2 ^ 32) ⌝ }
-    ensures { λ r. ⌜ (endOf r (stOf slots (now (img .exit)) (r .mem)) ≡ final (migrate g source target (stOf slots (now (img .entry)) mem)))
+    ensures { λ r. ⌜ Through g (migrate g source target (stOf slots (now (img .entry)) mem)) (now (img .entry)) (now (power .entry)) (now (img .exit)) (now (power .exit)) (endOf r (stOf slots (now (img .exit)) (r .mem)))
         × Past slots (mem .cache) (r .mem .cache) × (r .mem .erased ≤ mem .erased + 1) ⌝ }
 {
     let a = ring::data_at(g, source, img.len());
     let e = ring::end_at(g, source, img.len());
     let to = ring::data_at(g, target, img.len());
-    let r = migrate_all(img, g, mem, slots, a, e, to);
+    let r = migrate_all(img, g, mem, slots, a, e, to, power);
     let m = r.mem;
     if r.ok {
-        ring::erase_page(img, g, source);
+        ring::erase_page(img, g, source, power);
         let c = m.cache;
         let erased = m.erased + 1;
         return Moved {

@@ -21,7 +21,7 @@ use Rattle.rules.specs.Fetch.{Found, corrupt, missing, found, newest, answerOf,
 use Rattle.rules.specs.Store.{fetch, store}
 use Rattle.rules.specs.Remove.{Which, every, only, remove, eraseAll}
 use Rattle.rules.specs.Walk.{walkFirst, walkStart, walkStep, cursorAt, Walk, Step, ended, stepped}
-use Rattle.rules.specs.Calls.{Call, fetchItem, fetchPlain, storeItem, removeItem, removeAllItems, eraseAllPages, fetchAllItems, nextItem, Lent, Told, noCursor, startCursor, stepAnswer, geoOf, tell, called}
+use Rattle.rules.specs.Calls.{Call, fetchItem, fetchPlain, storeItem, removeItem, removeAllItems, eraseAllPages, fetchAllItems, nextItem, Lent, Told, noCursor, startCursor, stepAnswer, geoOf, tell, called, entriesOf, runOf}
 use Rattle.rules.specs.List.{Pair, inList, dropKey, listAfter}
 use Rattle.laws.specs.Geometry.{accepted, accepts, Accepted, Fit, zero-done, refusal-low}
 use Rattle.theory.specs.Keep.{itOf}
@@ -33,7 +33,7 @@ use Rattle.theory.specs.Listed.{valOf, drop-same, drop-other, Lists, store-list
 use Rattle.theory.specs.Gone.{erasedImg}
 use Rattle.theory.specs.Removing.{Rid, rid-of, removedImg, Removed, remove-res, not-held, erase-res, wiped}
 use Rattle.theory.specs.Latest.{begun, start-res, walkedLog, lists-of, not-corrupt, absent, found-bytes}
-use Rattle.promises.specs.Promise.{Given, refused, entriesOf, runOf, Shows, Right, again, StepRight}
+use Rattle.promises.specs.Promise.{Given, refused, Shows, Right, again, StepRight}
 use Rattle.promises.specs.Rule.{store-rule, store-erases}
 use Rattle.promises.specs.Walks.{walk-one, walked, step-rule, step-ends}
 use Rattle.promises.specs.Behind.{called-runs, either, run-kept}

@@ -12,14 +12,14 @@ use Rattle.rules.specs.Runs.{End, final}
 use Rattle.rules.specs.Fetch.{newest, plainFetch}
 use Rattle.rules.specs.Remove.{Which, every, only, remove}
 use Rattle.rules.specs.Walk.{walkStep}
-use Rattle.rules.specs.Calls.{Call, fetchItem, fetchPlain, storeItem, removeItem, removeAllItems, eraseAllPages, fetchAllItems, nextItem, Lent, geoOf, called}
+use Rattle.rules.specs.Calls.{Call, fetchItem, fetchPlain, storeItem, removeItem, removeAllItems, eraseAllPages, fetchAllItems, nextItem, Lent, geoOf, called, runOf}
 use Rattle.rules.specs.Sound.{All, Sound, usedRing, SoundImage}
 use Rattle.laws.specs.Geometry.{Fit, accepted, held-of}
 use Rattle.theory.specs.Sane.{done-clean, store-clean, found-clean, no-bad}
 use Rattle.theory.specs.Removing.{remove-is, rid-of, erase-res}
 use Rattle.theory.specs.Latest.{not-corrupt, start-res}
 use Rattle.theory.specs.AnyCache.{fetch-any, store-any}
-use Rattle.promises.specs.Promise.{Given, AllGiven, again, seen, refusalOf, runOf, worksOn}
+use Rattle.promises.specs.Promise.{Given, AllGiven, again, seen, refusalOf, worksOn}
 use Rattle.promises.specs.Behind.{either, low-of}
 use Rattle.promises.specs.Answers.{fitting, step-clean}
 

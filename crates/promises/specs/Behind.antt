@@ -15,12 +15,12 @@ use Rattle.rules.specs.Runs.{St, Out}
 use Rattle.rules.specs.Remove.{every, only}
 use Rattle.rules.specs.Walk.{walkFirst, cursorAt, walkStep}
 use Rattle.rules.specs.Held.{Held}
-use Rattle.rules.specs.Calls.{Call, fetchItem, fetchPlain, storeItem, removeItem, removeAllItems, eraseAllPages, fetchAllItems, nextItem, Lent, Told, noCursor, startCursor, stepCursor, geoOf, tell, behind, called}
+use Rattle.rules.specs.Calls.{Call, fetchItem, fetchPlain, storeItem, removeItem, removeAllItems, eraseAllPages, fetchAllItems, nextItem, Lent, Told, noCursor, startCursor, stepCursor, geoOf, tell, behind, called, entriesOf, runOf, valueOf, stepsBehind, stepsOf}
 use Rattle.laws.specs.Geometry.{accepted, held-of, zero-done, refusal-low}
 use Rattle.laws.specs.Plays.{fetch-plays, store-plays, remove-plays, erase-plays, start-plays}
 use Rattle.theory.specs.Kept.{Lie, AnswerIn, Kept, most, fetch-kept, plain-kept, store-kept, remove-kept, erase-kept, start-kept}
 use Rattle.theory.specs.Steps.{CursorIn, start-in, step-answer-in, step-cursor-in}
-use Rattle.promises.specs.Promise.{refusalOf, entriesOf, runOf, worksOn, givenCursor, refused, valueOf}
+use Rattle.promises.specs.Promise.{refusalOf, worksOn, givenCursor, refused}
 
 module _ (w E m v : ℕ) (b : Lent) (f : Geo → St → Out) (c : Geo → Out → Cursor) (c₀ : Cursor) where
   behind-yes : refusal w E (length (b .image)) m v ≡ Done
@@ -168,7 +168,7 @@ module _ (w E m : ℕ) (c : Call) (b : Lent) where
 
 -- ---- the steps
 
-pub run-plays : (G : Geo) (c : Call) (s : St) → replay (G .page) (s .img) (runOf G c s .steps) ≡ runOf G c s .st .img
+run-plays : (G : Geo) (c : Call) (s : St) → replay (G .page) (s .img) (runOf G c s .steps) ≡ runOf G c s .st .img
 run-plays G (fetchItem k) s = fetch-plays G k s .is
 run-plays G (fetchPlain k) s = refl
 run-plays G (storeItem k v) s = store-plays G k v s .is
@@ -177,3 +177,21 @@ run-plays G removeAllItems s = remove-plays G every s .is
 run-plays G eraseAllPages s = erase-plays G s .is
 run-plays G fetchAllItems s = start-plays G s .is
 run-plays G (nextItem c) s = refl
+
+steps-none : (w E m : ℕ) (c : Call) (b : Lent) → refusalOf w E m c b ≢ Done → stepsOf w E m c b ≡ []
+unfolding stepsOf stepsBehind
+steps-none w E m c b n =
+    rw (ne-eqb (number (refusalOf w E m c b)) 0 (λ z. n (zero-done w E (length (b .image)) (entriesOf m c) (valueOf c) z)))
+
+steps-run : (w E m : ℕ) (c : Call) (b : Lent) → refusalOf w E m c b ≡ Done
+    → stepsOf w E m c b ≡ runOf (geoOf w E (length (b .image))) c (worksOn m c b) .steps
+unfolding stepsOf stepsBehind
+steps-run w E m c b e = rw e
+
+-- the flash steps of a call, replayed, give its image
+pub steps-play : (w E m : ℕ) (c : Call) (b : Lent) → replay E (b .image) (stepsOf w E m c b) ≡ called w E m c b .image
+steps-play w E m c b =
+    let G : Geo = geoOf w E (length (b .image)) in
+    either w E m c b (λ t. replay E (b .image) (stepsOf w E m c b) ≡ t .image)
+    (λ n. ap (replay E (b .image)) (steps-none w E m c b n))
+    (λ e. ap (replay E (b .image)) (steps-run w E m c b e) ∙ run-plays G c (worksOn m c b))

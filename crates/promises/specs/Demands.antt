@@ -1,33 +1,36 @@
 -- The final statements, over the public definition `called` of rules: words of 4 or 8 bytes (w), pages of E bytes, a cache of m entries of the
 -- 32 that are lent. Their words stand in Promise.antt; `SoundImage` in rules' Sound.antt, `listAfter` and `latest` in its List.antt.
 use mathlib.Core.Path.{_≡_, refl, sym, ap, _∙_, subst}
-use mathlib.Core.Logic.{_≢_, _↔_, _⊎_, inl}
-use Prim.Native.Nat.{ℕ, _+_, _*_, _≤_}
-use mathlib.Core.List.{List, [], _∷_}
+use mathlib.Core.Logic.{_≢_, _↔_, _⊎_, inl, ⊎-elim}
+use Prim.Native.Nat.{ℕ, _+_, _*_, _≤_, _<_}
+use mathlib.Core.Bool.{true}
+use mathlib.Core.List.{List, [], _∷_, _++_}
 use lib.ListN.{length, replicate, length-replicate}
 use native.Mathlib.Omega.{arith}
 use Rattle.rules.specs.declared.{Geo.Geo, Answer.Answer, Answer.the-variants.Done, Answer.the-variants.Value, Answer.the-variants.Item, Answer.the-variants.Corrupted, Cursor.Cursor}
-use Rattle.rules.specs.Bytes.{replay, Bytes}
+use Rattle.rules.specs.Bytes.{Bytes, FlashStep, programs, program, replay}
 use Rattle.rules.specs.Items.{Entry, size}
 use Rattle.rules.specs.Pages.{ringUp}
 use Rattle.rules.specs.Answers.{number, refusal}
 use Rattle.rules.specs.Runs.{St}
+use Rattle.rules.specs.Power.{endless, lasts, units, cutImage}
 use Rattle.rules.specs.Store.{repair}
 use Rattle.rules.specs.Walk.{Walk, walkFirst}
-use Rattle.rules.specs.Calls.{Call, storeItem, fetchAllItems, Lent, geoOf, called, nextItem}
+use Rattle.rules.specs.Calls.{Call, storeItem, fetchAllItems, Lent, geoOf, called, nextItem, stepsOf}
 use Rattle.rules.specs.Sound.{All, SoundImage, blankRing}
 use Rattle.rules.specs.List.{Pair, latest, pairs, listAfter}
 use Rattle.laws.specs.Lists.{All-map}
 use Rattle.laws.specs.ByteLaws.{Bytes-replicate}
 use Rattle.laws.specs.Geometry.{accepted, held-of, Fit}
 use Rattle.laws.specs.Rings.{logOf}
+use Rattle.laws.specs.Power.{lasts-le, lasts-endless, cut-whole, cut-between, cut-inside}
 use Rattle.laws.specs.Plays.{repair-plays}
 use Rattle.theory.specs.Sane.{not-eight, is-seven, blank-image}
 use Rattle.theory.specs.Latest.{listOf}
 use Rattle.theory.specs.Kept.{AnswerIn}
-use Rattle.promises.specs.Promise.{Given, AllGiven, fresh, seen, refusalOf, refused, runOf, worksOn, FullRule, Single, Follows, WalkRight, StepRight}
+use Rattle.promises.specs.Promise.{Given, AllGiven, fresh, seen, refusalOf, refused, FullRule, Single, Follows, WalkRight, StepRight}
 use Rattle.promises.specs.Singles.{single-after, latest-single}
-use Rattle.promises.specs.Behind.{called-refused, called-runs, size-kept, run-plays, image-length, answer-in, erased-in}
+use Rattle.promises.specs.Behind.{called-refused, called-runs, size-kept, steps-play, image-length, answer-in, erased-in}
 use Rattle.promises.specs.Answers.{step-right}
 use Rattle.promises.specs.AnyLent.{all-kept}
 use Rattle.promises.specs.Sequences.{follows, same-seen, begins}
@@ -136,14 +139,34 @@ pub step-by-rule : (w E m : ℕ) → (w ≡ 4) ⊎ (w ≡ 8) → (b : Lent) → 
 step-by-rule w E m word b bs e c =
     step-right w E m b (record { held = held-of w E (length (b .image)) 0 0 word (accepted w E (length (b .image)) 0 0 e); bytes = bs }) e c
 
--- ---- THE FLASH STEPS. "Nothing else changes the image": the flash steps of a call's run, replayed, give the image that it leaves. So do those of a repair.
+-- ---- THE FLASH STEPS. "Nothing else changes the image": the flash steps of a call, replayed, give the image that it leaves. So do those of a repair.
 
-pub steps-give : (w E m : ℕ) (c : Call) (b : Lent) → refusalOf w E m c b ≡ Done
-    → replay E (b .image) (runOf (geoOf w E (length (b .image))) c (worksOn m c b) .steps) ≡ called w E m c b .image
-steps-give w E m c b e = run-plays (geoOf w E (length (b .image))) c (worksOn m c b) ∙ sym (ap (λ t. t .image) (called-runs w E m c b e))
+pub steps-give : (w E m : ℕ) (c : Call) (b : Lent) → replay E (b .image) (stepsOf w E m c b) ≡ called w E m c b .image
+steps-give w E m c b = steps-play w E m c b
 
 pub repair-steps-give : (G : Geo) (s : St) → replay (G .page) (s .img) (repair G s .steps) ≡ repair G s .st .img
 repair-steps-give G s = repair-plays G s .is
+
+-- ---- THEIR ORDER. What the code leaves with every power is `cutImage` of these steps (the statements of store_item_cut and the others in map). With power for
+-- some of the steps it is the image after these; with power for some bytes of the next one too, these bytes are programmed, and no others; with power
+-- for all of them it is the image that the call leaves.
+
+pub order : (w E m : ℕ) (c : Call) (b : Lent) (xs ys : List FlashStep) → stepsOf w E m c b ≡ xs ++ ys → units xs < endless
+    → cutImage E (b .image) (units xs) (stepsOf w E m c b) ≡ replay E (b .image) xs
+order w E m c b xs ys e h = ap (cutImage E (b .image) (units xs)) e ∙ cut-between E xs ys (b .image) h
+
+pub order-inside : (w E m : ℕ) (c : Call) (b : Lent) (xs ys : List FlashStep) (at : ℕ) (bs cs : List ℕ)
+    → stepsOf w E m c b ≡ xs ++ (programs at (bs ++ cs) ∷ ys) → units xs + length bs < endless
+    → cutImage E (b .image) (units xs + length bs) (stepsOf w E m c b) ≡ program (replay E (b .image) xs) at bs
+order-inside w E m c b xs ys at bs cs e h =
+    ap (cutImage E (b .image) (units xs + length bs)) e ∙ cut-inside E xs ys at bs cs (b .image) h
+
+pub order-whole : (w E m : ℕ) (c : Call) (b : Lent) (p : ℕ) → (units (stepsOf w E m c b) ≤ p) ⊎ (endless ≤ p)
+    → (lasts p (units (stepsOf w E m c b)) ≡ true) × (cutImage E (b .image) p (stepsOf w E m c b) ≡ called w E m c b .image)
+order-whole w E m c b p h =
+    let u : ℕ = units (stepsOf w E m c b) in
+    let l : lasts p u ≡ true = ⊎-elim (λ x. lasts-le p u x) (λ x. lasts-endless p u x) h in
+    (l, cut-whole E (stepsOf w E m c b) (b .image) p l ∙ steps-give w E m c b)
 
 -- ---- A BLANK FLASH is sound, at every size that is accepted.
 

@@ -14,12 +14,10 @@ use Rattle.rules.specs.Items.{Entry, size}
 use Rattle.rules.specs.Pages.{same, state, itemsOf, areaLen, dataAt, endAt, next, ringUp}
 use Rattle.rules.specs.Cache.{emptyPointer}
 use Rattle.rules.specs.Answers.{refusal}
-use Rattle.rules.specs.Runs.{St, Out, out}
-use Rattle.rules.specs.Fetch.{Found, corrupt, missing, found, newest, plainFetch}
-use Rattle.rules.specs.Store.{fetch, store}
-use Rattle.rules.specs.Remove.{every, only, remove, eraseAll}
-use Rattle.rules.specs.Walk.{Step, ended, stepped, walkStart, walkStep, cursorAt, restOf, Walk, walkFirst}
-use Rattle.rules.specs.Calls.{Call, fetchItem, fetchPlain, storeItem, removeItem, removeAllItems, eraseAllPages, fetchAllItems, nextItem, Lent, Told, noCursor, stepAnswer, stepCursor, geoOf, called}
+use Rattle.rules.specs.Runs.{St}
+use Rattle.rules.specs.Fetch.{Found, corrupt, missing, found, newest}
+use Rattle.rules.specs.Walk.{Step, ended, stepped, cursorAt, restOf, Walk, walkFirst}
+use Rattle.rules.specs.Calls.{Call, fetchItem, fetchPlain, storeItem, removeItem, removeAllItems, eraseAllPages, fetchAllItems, nextItem, Lent, Told, noCursor, stepAnswer, stepCursor, geoOf, called, entriesOf, valueOf}
 use Rattle.rules.specs.Sound.{SoundImage}
 use Rattle.rules.specs.List.{Pair, inList, latest, pairs, listAfter}
 use Rattle.laws.specs.Entries.{spans}
@@ -65,29 +63,7 @@ abbrev pub seen : (Call → Lent → Told) → List Call → Lent → List Row
 seen f [] b = []
 seen f (c ∷ cs) b = row (f c b) ∷ seen f cs (again (f c b))
 
--- ---- A call: its refusal, its run
-
--- the entries of the cache that a call works with: a plain fetch and a step take no cache
-abbrev pub entriesOf : ℕ → Call → ℕ
-entriesOf m (fetchItem k) = m
-entriesOf m (fetchPlain k) = 0
-entriesOf m (storeItem k v) = m
-entriesOf m (removeItem k) = m
-entriesOf m removeAllItems = m
-entriesOf m eraseAllPages = m
-entriesOf m fetchAllItems = m
-entriesOf m (nextItem c) = 0
-
--- the length of the value that it takes: only a store takes one
-abbrev pub valueOf : Call → ℕ
-valueOf (fetchItem k) = 0
-valueOf (fetchPlain k) = 0
-valueOf (storeItem k v) = length v
-valueOf (removeItem k) = 0
-valueOf removeAllItems = 0
-valueOf eraseAllPages = 0
-valueOf fetchAllItems = 0
-valueOf (nextItem c) = 0
+-- ---- A call: its refusal, what its run works on
 
 -- the refusal of a call, Done where there is none
 abbrev pub refusalOf : ℕ → ℕ → ℕ → Call → Lent → Answer
@@ -106,17 +82,6 @@ givenCursor (nextItem c) = c
 
 abbrev pub refused : ℕ → ℕ → ℕ → Call → Lent → Told
 refused w E m c b = record { answer = refusalOf w E m c b; cursor = givenCursor c; image = b .image; cache = b .cache; erased = 0 }
-
--- the run behind the refusals
-abbrev pub runOf : Geo → Call → St → Out
-runOf G (fetchItem k) s = fetch G k s
-runOf G (fetchPlain k) s = out (plainFetch G (s .img) k) s
-runOf G (storeItem k v) s = store G k v s
-runOf G (removeItem k) s = remove G (only k) s
-runOf G removeAllItems s = remove G every s
-runOf G eraseAllPages s = eraseAll G s
-runOf G fetchAllItems s = walkStart G s
-runOf G (nextItem c) s = out (stepAnswer (walkStep G (s .img) c)) s
 
 -- what it works on
 abbrev pub worksOn : ℕ → Call → Lent → St

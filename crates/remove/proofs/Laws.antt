@@ -6,19 +6,20 @@ use native.Mathlib.Omega.{arith}
 use native.Mathlib.Nat.{sub-zero}
 use mathlib.Core.Bool.{false, true, Bool}
 use mathlib.Core.List.{List, [], _∷_}
-use lib.ListN.{length, replicate}
+use lib.ListN.{length, take, drop, replicate}
 use borrow.Author.Tests.{ne-eqb, eq-eqb, lt-ltb, le-ltb}
 use Rattle.rules.specs.declared.{Geo.Geo, PageState.the-variants.Open, PageState.the-variants.PartialOpen, PageState.the-variants.Closed, Answer.the-variants.Done}
 use Rattle.rules.specs.Held.{Held}
-use Rattle.rules.specs.Bytes.{pick, both, program, erase}
+use Rattle.rules.specs.Bytes.{pick, both}
 use Rattle.rules.specs.Items.{itemOf, isPresent, Entry, size, presents, Scan, scan, read}
 use Rattle.rules.specs.Pages.{same, state, dataAt, endAt, next, firstPage, lastPage, upFrom, ringUp}
 use Rattle.rules.specs.Cache.{Cache, forget, clear}
-use Rattle.rules.specs.Runs.{St, Out, End, end, final, programming}
+use Rattle.rules.specs.Runs.{St, Out, out, programming}
 use Rattle.rules.specs.Remove.{Which as Wanted, every, only, matches, forgetting, removeEntries, removePages, removeStart, runRemove, erasePages, eraseAll}
 use Rattle.laws.specs.Lists.{both-true-r, both-false-r}
 use Rattle.laws.specs.Reading.{le-size}
-use Rattle.laws.specs.Programs.{program-window}
+use Rattle.laws.specs.Power.{Wrote, wrote-window, Blanked}
+use Rattle.laws.specs.Through.{Through, thr-refl, thr-from, thr-to, thr-then, thr-program, thr-erase}
 use Rattle.items.specs.declared.{Read.Read, Read.the-variants.End as ReadEnd, Read.the-variants.Skip, Read.the-variants.Item as ReadItem}
 use Rattle.items.specs.Code.{part, scanIn, readOf, stays}
 use Rattle.items.proofs.Laws.{kind-long, in-none, by-end, by-skip, by-item}
@@ -31,7 +32,7 @@ use Rattle.fetch.specs.declared.{Mem.Mem}
 use Rattle.fetch.specs.Code.{stOf, Kept}
 use Rattle.store.specs.Code.{RunOk}
 use Rattle.remove.specs.declared.{Which.Which, Which.the-variants.Every, Which.the-variants.Only}
-use Rattle.remove.specs.Code.{whichOf, hits, stWith, entriesOf, EntriesOk, PageOk, PagesOk, ForgotOk}
+use Rattle.remove.specs.Code.{whichOf, hits, stWith, entriesOf, RemovedOk, EntriesOk, PageOk, PagesOk, ForgotOk}
 
 -- ---- one item
 
@@ -75,107 +76,111 @@ remove-step t x es s k = go (isPresent (x .it .kind))
     go true = rw (place-free t x)
     go false = refl
 
--- a run over the items from a place on ends as one from another place, on another image: the loop so far
-pub record EntriesOn (w : ℕ) (t : Wanted) (e : ℕ) (a : ℕ) (img : List ℕ) (a′ : ℕ) (img′ : List ℕ) : Type 0 where
-  pub run : (c : Cache) (n : ℕ) (k : St → Out) → final (entriesOf w t a e (stWith img c n) k) ≡ final (entriesOf w t a′ e (stWith img′ c n) k)
+-- what the code's test says
+pub item-yes : (b h : Bool) (img img′ : List ℕ) (p p′ a : ℕ) → b ≡ h → b ≡ true → Wrote img p img′ p′ (a + 4) (replicate 4 0) → RemovedOk h img p img′ p′ a
+item-yes b h img img′ p p′ a e t w = record { yes = λ q. w; no = λ q. let z : _≡_ {A = ℕ} 0 1 = cc in absurd (omega arith) }
+
+pub item-no : (b h : Bool) (img : List ℕ) (p a : ℕ) → b ≡ h → b ≡ false → RemovedOk h img p img p a
+item-no b h img p a e t = record { yes = λ q. let z : _≡_ {A = ℕ} 0 1 = cc in absurd (omega arith); no = λ q. (refl, refl) }
+
+-- an item's run: its step, and then the rest
+item-thr : (G : Geo) (b : Bool) (a : ℕ) (img img′ : List ℕ) (p p′ : ℕ) (c : Cache) (n : ℕ) (f : St → Out) → RemovedOk b img p img′ p′ a
+    → Through G (pick b (programming (a + 4) (replicate 4 0) (stWith img c n) f) (f (stWith img c n))) img p img′ p′ (f (stWith img′ c n))
+item-thr G true a img img′ p p′ c n f R = thr-program G (a + 4) (replicate 4 0) (stWith img c n) f img′ p p′ (R .yes refl)
+item-thr G false a img img′ p p′ c n f R = let z = R .no refl in rw (z .0, z .1) (thr-refl G (f (stWith img c n)) img p)
+
+-- what is behind the item stays
+item-rest : (b : Bool) (a : ℕ) (img img′ : List ℕ) (p p′ : ℕ) → RemovedOk b img p img′ p′ a → a + 8 ≤ length img → (j m : ℕ) → a + 8 ≤ j → take m (drop j img′) ≡ take m (drop j img)
+item-rest true a img img′ p p′ R h j m g = wrote-window img img′ (replicate 4 0) p p′ (a + 4) (R .yes refl) (omega arith) j m (inr (omega arith))
+item-rest false a img img′ p p′ R h j m g = rw (R .no refl .0)
+
+-- a run over the items from a place on has come to another place, on another image: the loop so far
+pub record EntriesOn (w : ℕ) (t : Wanted) (e : ℕ) (a : ℕ) (img : List ℕ) (p : ℕ) (a′ : ℕ) (img′ : List ℕ) (p′ : ℕ) : Type 0 where
+  pub run : (G : Geo) (c : Cache) (n : ℕ) (k : St → Out) → Through G (entriesOf w t a e (stWith img c n) k) img p img′ p′ (entriesOf w t a′ e (stWith img′ c n) k)
 
 module _ (w : ℕ) (t : Wanted) (e : ℕ) where
-  pub on-refl : (a : ℕ) (img : List ℕ) → EntriesOn w t e a img a img
-  on-refl a img = record { run = λ c n k. refl }
+  pub on-refl : (a : ℕ) (img : List ℕ) (p : ℕ) → EntriesOn w t e a img p a img p
+  on-refl a img p = record { run = λ G c n k. thr-refl G _ img p }
 
-  on-trans : (a : ℕ) (i : List ℕ) (a₁ : ℕ) (i₁ : List ℕ) (a₂ : ℕ) (i₂ : List ℕ) → EntriesOn w t e a i a₁ i₁ → EntriesOn w t e a₁ i₁ a₂ i₂ → EntriesOn w t e a i a₂ i₂
-  on-trans a i a₁ i₁ a₂ i₂ p q = record { run = λ c n k. p .run c n k ∙ q .run c n k }
-
-  module _ (a₀ : ℕ) (img₀ : List ℕ) (a : ℕ) (img : List ℕ) (P : EntriesOn w t e a₀ img₀ a img) (h₄ : 4 ≤ w) (h₀ : e ≤ length img₀) (hl : length img ≡ length img₀) where
+  module _ (a₀ : ℕ) (img₀ : List ℕ) (p₀ : ℕ) (a : ℕ) (img : List ℕ) (p : ℕ) (P : EntriesOn w t e a₀ img₀ p₀ a img p) (h₄ : 4 ≤ w) (h₀ : e ≤ length img₀) (hl : length img ≡ length img₀) where
     hw : 0 < w
     hw = omega arith
 
     he : e ≤ length img
     he = omega arith
 
-    stopped : scanIn w img a e ≡ record { items = []; end = a } → EntriesOk w t a₀ e img₀ img
+    stopped : scanIn w img a e ≡ record { items = []; end = a } → EntriesOk w t a₀ e img₀ p₀ img p
     unfolding removeEntries
-    stopped q = record { run = λ c n k. P .run c n k ∙ ap (λ (x : Scan). final (removeEntries t (presents (x .items)) (stWith img c n) k)) q }
+    stopped q = record { run = λ G c n k. thr-to G (P .run G c n k) (ap (λ (x : Scan). removeEntries t (presents (x .items)) (stWith img c n) k) q) }
 
-    pub entries-none : e ≤ a → EntriesOk w t a₀ e img₀ img
+    pub entries-none : e ≤ a → EntriesOk w t a₀ e img₀ p₀ img p
     entries-none h = stopped (in-none w hw img e he a h)
 
     module _ (r : Read) (h : a < e) (q : readOf (part img a e) r ≡ read w (part img a e)) where
-      pub entries-end : r ≡ ReadEnd → EntriesOk w t a₀ e img₀ img
+      pub entries-end : r ≡ ReadEnd → EntriesOk w t a₀ e img₀ p₀ img p
       entries-end x = stopped (by-end w hw img e he a r h q x)
 
-      pub entries-skip : r ≡ Skip → EntriesOn w t e a₀ img₀ (a + w) img
-      entries-skip x =
-          on-trans a₀ img₀ a img (a + w) img P
-          (record { run = λ c n k. ap (λ (y : Scan). final (removeEntries t (presents (y .items)) (stWith img c n) k)) (by-skip w hw img e he a r h q x) })
+      pub entries-skip : r ≡ Skip → EntriesOn w t e a₀ img₀ p₀ (a + w) img p
+      entries-skip x = record {
+        run = λ G c n k. thr-to G (P .run G c n k) (ap (λ (y : Scan). removeEntries t (presents (y .items)) (stWith img c n) k) (by-skip w hw img e he a r h q x));
+      }
 
-      module _ (L : ℕ) (x : r ≡ ReadItem L) (f : stays w a e r) (img′ : List ℕ)
-          (i : img′ ≡ pick (hits t (itemOf (part img a e) L)) (program img (a + 4) (replicate 4 0)) img) where
+      module _ (L : ℕ) (x : r ≡ ReadItem L) (f : stays w a e r) (img′ : List ℕ) (p′ : ℕ) (i : RemovedOk (hits t (itemOf (part img a e) L)) img p img′ p′ a) where
         abbrev later : List ℕ → List Entry
         later l = scanIn w l (a + size w L) e .items
 
-        -- what is behind the item stays
-        rest : (b : Bool) → part (pick b (program img (a + 4) (replicate 4 0)) img) (a + size w L) e ≡ part img (a + size w L) e
-        rest true = let z = le-size w L hw in let f′ = rw x at f in program-window img (a + 4) (replicate 4 0) (omega arith) (a + size w L) (e - (a + size w L)) (inr (omega arith))
-        rest false = refl
-
         rest-is : later img ≡ later img′
         rest-is =
+            let z = le-size w L hw in
+            let f′ = rw x at f in
             ap (λ (s : List ℕ). scan w (e - (a + size w L)) (a + size w L) s .items)
-            (sym (ap (λ (l : List ℕ). part l (a + size w L) e) i ∙ rest (hits t (itemOf (part img a e) L))))
+            (sym (item-rest (hits t (itemOf (part img a e) L)) a img img′ p p′ i (omega arith) (a + size w L) (e - (a + size w L)) (omega arith)))
 
-        stepped : (c : Cache) (n : ℕ) (k : St → Out) (b : Bool)
-            → final (pick b (programming (a + 4) (replicate 4 0) (stWith img c n) (λ s′. removeEntries t (presents (later img)) s′ k)) (removeEntries t (presents (later img)) (stWith img c n) k))
-            ≡ final (removeEntries t (presents (later img)) (stWith (pick b (program img (a + 4) (replicate 4 0)) img) c n) k)
-        stepped c n k true = refl
-        stepped c n k false = refl
-
-        pub entries-item : (z : ℕ) → z ≡ size w L → EntriesOn w t e a₀ img₀ (a + z) img′
+        pub entries-item : (z : ℕ) → z ≡ size w L → EntriesOn w t e a₀ img₀ p₀ (a + z) img′ p′
         entries-item z hz =
-            rw hz
-            (on-trans a₀ img₀ a img (a + size w L) img′ P
-            (record {
-              run = λ c n k.
-                  ap (λ (y : Scan). final (removeEntries t (presents (y .items)) (stWith img c n) k)) (by-item w hw img e he a r h q L x)
-                  ∙ ap final (remove-step t (record { at = a; it = itemOf (part img a e) L }) (later img) (stWith img c n) k)
-                  ∙ stepped c n k (hits t (itemOf (part img a e) L))
-                  ∙ sym (ap (λ (l : List ℕ). final (removeEntries t (presents (later img)) (stWith l c n) k)) i)
-                  ∙ ap (λ (es : List Entry). final (removeEntries t (presents es) (stWith img′ c n) k)) rest-is;
-            }))
+            rw hz (record {
+              run = λ G c n k.
+                  thr-then G
+                  (thr-to G (P .run G c n k)
+                  (ap (λ (y : Scan). removeEntries t (presents (y .items)) (stWith img c n) k) (by-item w hw img e he a r h q L x)
+                  ∙ remove-step t (record { at = a; it = itemOf (part img a e) L }) (later img) (stWith img c n) k))
+                  (thr-to G (item-thr G (hits t (itemOf (part img a e) L)) a img img′ p p′ c n (λ s. removeEntries t (presents (later img)) s k) i)
+                  (ap (λ (es : List Entry). removeEntries t (presents es) (stWith img′ c n) k) rest-is));
+            })
 
 -- ---- pages
 
-module _ (G : Geo) (t : Wanted) (p : ℕ) (img : List ℕ) (b : Bool) (hb : b ≡ same Open (state G img p)) where
-  pub page-open : b ≡ true → PageOk G t p img img
-  page-open o = record { run = λ c n k. rw (← hb, o) }
+module _ (G : Geo) (t : Wanted) (q : ℕ) (img : List ℕ) (p : ℕ) (b : Bool) (hb : b ≡ same Open (state G img q)) where
+  pub page-open : b ≡ true → PageOk G t q img p img p
+  page-open o = record { run = λ c n k. rw (← hb, o) (thr-refl G (k (stWith img c n)) img p) }
 
-  pub page-items : (a e : ℕ) (img′ : List ℕ) → b ≡ false → a ≡ dataAt G p → e ≡ endAt G p → Held G (length img) → EntriesOk (G .word) t a e img img′ → PageOk G t p img img′
-  page-items a e img′ o ha he H R = record { run = λ c n k. rw (← hb, o, scan-is G img p (omega (arith, H .room)), ← ha, ← he) (R .run c n k) }
+  pub page-items : (a e : ℕ) (img′ : List ℕ) (p′ : ℕ) → b ≡ false → a ≡ dataAt G q → e ≡ endAt G q → Held G (length img) → EntriesOk (G .word) t a e img p img′ p′ → PageOk G t q img p img′ p′
+  page-items a e img′ p′ o ha he H R = record { run = λ c n k. rw (← hb, o, scan-is G img q (omega (arith, H .room)), ← ha, ← he) (R .run G c n k) }
 
--- a run over all pages ends as one over the m pages from p on, on another image: the loop so far
-pub record PagesOn (G : Geo) (t : Wanted) (from : ℕ) (img₀ : List ℕ) (m p : ℕ) (img : List ℕ) : Type 0 where
-  pub run : (c : Cache) (n : ℕ) → final (removePages G t (ups G (G .pages) from) (stWith img₀ c n)) ≡ final (removePages G t (ups G m p) (stWith img c n))
+-- a run over all pages has come to the m pages from q on, on another image: the loop so far
+pub record PagesOn (G : Geo) (t : Wanted) (from : ℕ) (img₀ : List ℕ) (p₀ m q : ℕ) (img : List ℕ) (p : ℕ) : Type 0 where
+  pub run : (c : Cache) (n : ℕ) → Through G (removePages G t (ups G (G .pages) from) (stWith img₀ c n)) img₀ p₀ img p (removePages G t (ups G m q) (stWith img c n))
 
-module _ (G : Geo) (t : Wanted) (from : ℕ) (img₀ : List ℕ) where
-  pub pages-first : PagesOn G t from img₀ (G .pages) from img₀
-  pages-first = record { run = λ c n. refl }
+module _ (G : Geo) (t : Wanted) (from : ℕ) (img₀ : List ℕ) (p₀ : ℕ) where
+  pub pages-first : PagesOn G t from img₀ p₀ (G .pages) from img₀ p₀
+  pages-first = record { run = λ c n. thr-refl G _ img₀ p₀ }
 
-  pub pages-none : (m p : ℕ) (img : List ℕ) → from < G .pages → m ≤ 0 → PagesOn G t from img₀ m p img → PagesOk G t from img₀ img
+  pub pages-none : (m q : ℕ) (img : List ℕ) (p : ℕ) → from < G .pages → m ≤ 0 → PagesOn G t from img₀ p₀ m q img p → PagesOk G t from img₀ p₀ img p
   unfolding removePages ups
-  pages-none m p img h z P = record {
+  pages-none m q img p h z P = record {
     run = λ c n.
-        ap (λ (ps : List ℕ). final (removePages G t ps (stWith img₀ c n))) (up-is G from h) ∙ P .run c n
-        ∙ (let q : m ≡ 0 = omega arith in rw q);
+        thr-from G (ap (λ (ps : List ℕ). removePages G t ps (stWith img₀ c n)) (up-is G from h))
+        (thr-to G (P .run c n) (let y : m ≡ 0 = omega arith in rw y));
   }
 
-  pub pages-on : (m p q : ℕ) (img img′ : List ℕ) → 0 < m → q ≡ next G p → PageOk G t p img img′ → PagesOn G t from img₀ m p img → PagesOn G t from img₀ (m - 1) q img′
+  pub pages-on : (m q x : ℕ) (img : List ℕ) (p : ℕ) (img′ : List ℕ) (p′ : ℕ) → 0 < m → x ≡ next G q → PageOk G t q img p img′ p′ → PagesOn G t from img₀ p₀ m q img p
+      → PagesOn G t from img₀ p₀ (m - 1) x img′ p′
   unfolding removePages ups
-  pages-on m p q img img′ h hq R P = record {
+  pages-on m q x img p img′ p′ h hq R P = record {
     run = λ c n.
-        P .run c n
-        ∙ (let z : m ≡ suc (m - 1) = omega arith in ap (λ (x : ℕ). final (removePages G t (ups G x p) (stWith img c n))) z)
-        ∙ R .run c n (removePages G t (ups G (m - 1) (next G p)))
-        ∙ sym (ap (λ (x : ℕ). final (removePages G t (ups G (m - 1) x) (stWith img′ c n))) hq);
+        thr-then G
+        (thr-to G (P .run c n) (let z : m ≡ suc (m - 1) = omega arith in ap (λ (y : ℕ). removePages G t (ups G y q) (stWith img c n)) z))
+        (thr-to G (R .run c n (removePages G t (ups G (m - 1) (next G q)))) (sym (ap (λ (y : ℕ). removePages G t (ups G (m - 1) y) (stWith img′ c n)) hq)));
   }
 
 -- ---- the start
@@ -201,39 +206,42 @@ module _ (n : ℕ) (t : Which) (mem : Mem) where
       → ForgotOk n (whichOf t) mem (record { cache = d; erased = mem .erased })
   forgot-one k d e h P = record { is = λ img. rw (e, h); kept = record { past = P; erased = refl } }
 
-pub removed : (G : Geo) (n : ℕ) (t : Wanted) (mem m : Mem) (from : ℕ) (img img′ : List ℕ) → ForgotOk n t mem m → from ≡ removeStart G img → PagesOk G t from img img′
-    → RunOk n 0 (runRemove G t) img img′ mem (record { mem = m; answer = Done })
-removed G n t mem m from img img′ F hf R = record {
-  is = sym (ap (λ (x : ℕ). final (removePages G t (ringUp G x) (forgetting t (stOf n img mem)))) (sym hf)
-      ∙ ap (λ (s : St). final (removePages G t (ringUp G from) s)) (sym (F .is img)) ∙ R .run (pointers n (m .cache)) (m .erased));
+pub removed : (G : Geo) (n : ℕ) (t : Wanted) (mem m : Mem) (from : ℕ) (img img′ : List ℕ) (p p′ : ℕ) → ForgotOk n t mem m → from ≡ removeStart G img → PagesOk G t from img p img′ p′
+    → RunOk G n 0 (runRemove G t) img p img′ p′ mem (record { mem = m; answer = Done })
+removed G n t mem m from img img′ p p′ F hf R = record {
+  is = thr-from G (ap (λ (x : ℕ). removePages G t (ringUp G x) (forgetting t (stOf n img mem))) (sym hf)
+      ∙ ap (λ (s : St). removePages G t (ringUp G from) s) (sym (F .is img))) (R .run (pointers n (m .cache)) (m .erased));
   past = F .kept .past;
   erased = omega (arith, F .kept .erased);
 }
 
 -- ---- erase all
 
--- the pages from p up are left
+-- the pages from q up are left
 abbrev pub eraseFrom : Geo → ℕ → St → Out
-eraseFrom G p s = erasePages G (upFrom p (G .pages - p)) s
+eraseFrom G q s = erasePages G (upFrom q (G .pages - q)) s
 
-module _ (G : Geo) (img : List ℕ) (c : Cache) (n p : ℕ) where
-  pub erase-on : (img′ : List ℕ) (X : End) → p < G .pages → img′ ≡ erase (G .page) img p → final (eraseFrom G p (stWith img c n)) ≡ X → final (eraseFrom G (p + 1) (stWith img′ c (n + 1))) ≡ X
+module _ (G : Geo) (img : List ℕ) (p : ℕ) (c : Cache) (n q : ℕ) where
+  pub erase-on : (img′ : List ℕ) (p′ : ℕ) (X : Out) (img₀ : List ℕ) (p₀ : ℕ) → q < G .pages → Blanked G img p img′ p′ q → Through G X img₀ p₀ img p (eraseFrom G q (stWith img c n))
+      → Through G X img₀ p₀ img′ p′ (eraseFrom G (q + 1) (stWith img′ c (n + 1)))
   unfolding erasePages
-  erase-on img′ X h e q =
-      let z : G .pages - p ≡ suc (G .pages - (p + 1)) = omega arith in
-      let y : suc p ≡ p + 1 = omega arith in
-      rw e (rw (z, y) at q)
+  erase-on img′ p′ X img₀ p₀ h w T =
+      let z : G .pages - q ≡ suc (G .pages - (q + 1)) = omega arith in
+      let y : suc q ≡ q + 1 = omega arith in
+      thr-then G (thr-to G T (ap (λ (j : ℕ). erasePages G (upFrom q j) (stWith img c n)) z))
+      (thr-to G (thr-erase G q (stWith img c n) (erasePages G (upFrom (suc q) (G .pages - (q + 1)))) img′ p p′ w)
+      (ap (λ (j : ℕ). erasePages G (upFrom j (G .pages - (q + 1))) (stWith img′ c (n + 1))) y))
 
-  erase-none : G .pages ≤ p → end Done (stWith img c n) ≡ final (eraseFrom G p (stWith img c n))
+  erase-none : G .pages ≤ q → eraseFrom G q (stWith img c n) ≡ out Done (stWith img c n)
   unfolding erasePages
-  erase-none h = let z : G .pages - p ≡ 0 = omega arith in rw z
+  erase-none h = let z : G .pages - q ≡ 0 = omega arith in rw z
 
-pub erased-all : (G : Geo) (n : ℕ) (mem m : Mem) (img₀ img : List ℕ) (er p : ℕ) → pointers n (m .cache) ≡ clear (pointers n (mem .cache)) → Kept n mem m → G .pages ≤ p → er ≡ m .erased + p → p ≤ G .pages
-    → final (eraseFrom G p (stWith img (pointers n (m .cache)) er)) ≡ final (eraseFrom G 0 (stWith img₀ (pointers n (m .cache)) (m .erased)))
-    → RunOk n (G .pages) (eraseAll G) img₀ img mem (record { mem = record { cache = m .cache; erased = er }; answer = Done })
+pub erased-all : (G : Geo) (n : ℕ) (mem m : Mem) (img₀ : List ℕ) (p₀ : ℕ) (img : List ℕ) (p er q : ℕ) → pointers n (m .cache) ≡ clear (pointers n (mem .cache)) → Kept n mem m → G .pages ≤ q → er ≡ m .erased + q → q ≤ G .pages
+    → Through G (eraseFrom G 0 (stWith img₀ (pointers n (m .cache)) (m .erased))) img₀ p₀ img p (eraseFrom G q (stWith img (pointers n (m .cache)) er))
+    → RunOk G n (G .pages) (eraseAll G) img₀ p₀ img p mem (record { mem = record { cache = m .cache; erased = er }; answer = Done })
 unfolding eraseAll
-erased-all G n mem m img₀ img er p hc K h he hp q = record {
-  is = erase-none G img (pointers n (m .cache)) er p h ∙ q ∙ rw (hc, K .erased, sub-zero (G .pages));
+erased-all G n mem m img₀ p₀ img p er q hc K h he hp T = record {
+  is = thr-from G (rw (hc, K .erased, sub-zero (G .pages))) (thr-to G T (erase-none G img p (pointers n (m .cache)) er q h));
   past = K .past;
   erased = omega (arith, K .erased);
 }

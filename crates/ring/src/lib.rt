@@ -4,9 +4,9 @@ ghost use Prim.Native.Nat.{_+_, _-_, _*_, _≤_, _<_};
 ghost use lib.ListN.{length, replicate};
 ghost use Rattle.rules.specs.declared.{PageState.the-variants.Corrupted};
 ghost use Rattle.rules.specs.Held.{Held};
-ghost use Rattle.rules.specs.Bytes.{program, erase};
 ghost use Rattle.rules.specs.Pages.{stateOf, stateNo, same, dataAt, endAt, startAt, zeroWord, marked, state, scanOf, itemsOf, hasFreeSpot, next, prev, firstPage, lastPage, anyCorrupted};
 ghost use Rattle.rules.specs.Fetch.{lastWith};
+ghost use Rattle.laws.specs.Power.{Wrote, Blanked};
 ghost use Rattle.items.specs.Code.{told, spotIn};
 use items::Spot;
 use rules::Geo;
@@ -218,37 +218,37 @@ pub fn has_free_spot(img: &[u8], g: Geo, p: usize, at: usize, m: usize) -> bool
 }
 
 // Programs zeros over a word.
-fn mark(img: &mut [u8], at: usize, w: usize)
+fn mark(img: &mut [u8], at: usize, w: usize, power: &mut usize)
     requires { ⌜ (at + w ≤ length (now img)) × (w ≤ 8) ⌝ }
-    ensures { λ _. ⌜ now (img .exit) ≡ program (now (img .entry)) at (replicate w 0) ⌝ }
+    ensures { λ _. ⌜ Wrote (now (img .entry)) (now (power .entry)) (now (img .exit)) (now (power .exit)) at (replicate w 0) ⌝ }
 {
     let z = [0u8; 8];
-    words::program(img, at, &z[..w]);
+    words::program(img, at, &z[..w], power);
 }
 
 // Marks the start of page p.
-pub fn mark_start(img: &mut [u8], g: Geo, p: usize)
+pub fn mark_start(img: &mut [u8], g: Geo, p: usize, power: &mut usize)
     requires { ⌜ Held g (length (now img)) × (p < g .pages) ⌝ }
-    ensures { λ _. ⌜ now (img .exit) ≡ program (now (img .entry)) (startAt g p) (zeroWord g) ⌝ }
+    ensures { λ _. ⌜ Wrote (now (img .entry)) (now (power .entry)) (now (img .exit)) (now (power .exit)) (startAt g p) (zeroWord g) ⌝ }
 {
     let at = base(g, p, img.len());
-    mark(img, at, g.word);
+    mark(img, at, g.word, power);
 }
 
 // Marks its end.
-pub fn mark_end(img: &mut [u8], g: Geo, p: usize)
+pub fn mark_end(img: &mut [u8], g: Geo, p: usize, power: &mut usize)
     requires { ⌜ Held g (length (now img)) × (p < g .pages) ⌝ }
-    ensures { λ _. ⌜ now (img .exit) ≡ program (now (img .entry)) (endAt g p) (zeroWord g) ⌝ }
+    ensures { λ _. ⌜ Wrote (now (img .entry)) (now (power .entry)) (now (img .exit)) (now (power .exit)) (endAt g p) (zeroWord g) ⌝ }
 {
     let at = end_at(g, p, img.len());
-    mark(img, at, g.word);
+    mark(img, at, g.word, power);
 }
 
 // Erases page p.
-pub fn erase_page(img: &mut [u8], g: Geo, p: usize)
+pub fn erase_page(img: &mut [u8], g: Geo, p: usize, power: &mut usize)
     requires { ⌜ Held g (length (now img)) × (p < g .pages) ⌝ }
-    ensures { λ _. ⌜ now (img .exit) ≡ erase (g .page) (now (img .entry)) p ⌝ }
+    ensures { λ _. ⌜ Blanked g (now (img .entry)) (now (power .entry)) (now (img .exit)) (now (power .exit)) p ⌝ }
 {
     let at = base(g, p, img.len());
-    words::erase(img, at, g.page);
+    words::erase(img, at, g.page, power);
 }

@@ -1,12 +1,15 @@
 -- The public calls, as their callers see them: the refusals, then the call, on a lent image and a lent cache of 32 entries.
+use mathlib.Core.Path.{_≡_}
 use Prim.Native.Nat.{ℕ, _+_, _/_}
-use mathlib.Core.List.{List, _++_}
+use mathlib.Core.Bool.{true}
+use mathlib.Core.List.{List, [], _++_}
 use lib.ListN.{length, take, drop}
 use Rattle.rules.specs.declared.{Geo.Geo, Cursor.Cursor, Answer.Answer, Answer.the-variants.None, Answer.the-variants.Item}
-use Rattle.rules.specs.Bytes.{pick}
+use Rattle.rules.specs.Bytes.{pick, FlashStep}
 use Rattle.rules.specs.Cache.{Cache}
 use Rattle.rules.specs.Answers.{isNo, refusal}
 use Rattle.rules.specs.Runs.{St, Out, out}
+use Rattle.rules.specs.Power.{lasts, spend, units, cutImage}
 use Rattle.rules.specs.Fetch.{plainFetch}
 use Rattle.rules.specs.Store.{fetch, store}
 use Rattle.rules.specs.Remove.{every, only, remove, eraseAll}
@@ -80,3 +83,57 @@ called w E m eraseAllPages l = plainly w E m 0 l (λ G s. eraseAll G s)
 called w E m fetchAllItems l = behind w E m 0 l (λ G s. walkStart G s) startCursor noCursor
 called w E m (nextItem c) l =
     behind w E 0 0 l (λ G s. out (stepAnswer (walkStep G (s .img) c)) s) (λ G o. stepCursor c (walkStep G (l .image) c)) c
+
+-- ---- The flash steps of a call
+
+-- the entries of the cache that a call works with: a plain fetch and a step take no cache
+abbrev pub entriesOf : ℕ → Call → ℕ
+entriesOf m (fetchItem k) = m
+entriesOf m (fetchPlain k) = 0
+entriesOf m (storeItem k v) = m
+entriesOf m (removeItem k) = m
+entriesOf m removeAllItems = m
+entriesOf m eraseAllPages = m
+entriesOf m fetchAllItems = m
+entriesOf m (nextItem c) = 0
+
+-- the length of the value that it takes: only a store takes one
+abbrev pub valueOf : Call → ℕ
+valueOf (fetchItem k) = 0
+valueOf (fetchPlain k) = 0
+valueOf (storeItem k v) = length v
+valueOf (removeItem k) = 0
+valueOf removeAllItems = 0
+valueOf eraseAllPages = 0
+valueOf fetchAllItems = 0
+valueOf (nextItem c) = 0
+
+-- the run behind the refusals
+abbrev pub runOf : Geo → Call → St → Out
+runOf G (fetchItem k) s = fetch G k s
+runOf G (fetchPlain k) s = out (plainFetch G (s .img) k) s
+runOf G (storeItem k v) s = store G k v s
+runOf G (removeItem k) s = remove G (only k) s
+runOf G removeAllItems s = remove G every s
+runOf G eraseAllPages s = eraseAll G s
+runOf G fetchAllItems s = walkStart G s
+runOf G (nextItem c) s = out (stepAnswer (walkStep G (s .img) c)) s
+
+-- the flash steps of a run behind its refusals: a refusal takes none
+unfoldable pub stepsBehind : ℕ → ℕ → ℕ → ℕ → Lent → (Geo → St → Out) → List FlashStep
+stepsBehind w E m v l f =
+    let no = refusal w E (length (l .image)) m v in
+    let G = geoOf w E (length (l .image)) in
+    let steps = f G (record { img = l .image; cache = take m (l .cache); erased = 0 }) .steps in
+    pick (isNo 0 no) steps []
+
+-- the flash steps of a public call
+unfoldable pub stepsOf : ℕ → ℕ → ℕ → Call → Lent → List FlashStep
+stepsOf w E m c l = stepsBehind w E (entriesOf m c) (valueOf c) l (λ G s. runOf G c s)
+
+-- what a call with these flash steps, which hands back `done`, tells with power p: the image is what the steps leave with it, so much of it
+-- is left, and where it lasts for all of them the call is as it is defined
+pub record Cut (E : ℕ) (img : List ℕ) (steps : List FlashStep) (done : Told) (p p′ : ℕ) (t : Told) : Type 0 where
+  pub image : t .image ≡ cutImage E img p steps
+  pub left : p′ ≡ spend p (units steps)
+  pub whole : lasts p (units steps) ≡ true → t ≡ done

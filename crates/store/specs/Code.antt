@@ -7,16 +7,17 @@ use Rattle.rules.specs.declared.{Geo.Geo, Answer.the-variants.Done, Answer.the-
 use Rattle.rules.specs.Bytes.{pick}
 use Rattle.rules.specs.Items.{size, encode}
 use Rattle.rules.specs.Pages.{scanOf, hasFreeSpot, next, endAt, zeroWord}
-use Rattle.rules.specs.Runs.{St, Out, out, end, final, onDone, programming, noting}
+use Rattle.rules.specs.Runs.{St, Out, out, onDone, programming, noting}
 use Rattle.rules.specs.Store.{rollover}
+use Rattle.laws.specs.Through.{Through}
 use Rattle.cache.specs.Code.{Past}
 use Rattle.fetch.specs.declared.{Mem.Mem}
 use Rattle.fetch.specs.Code.{stOf}
 use Rattle.store.specs.declared.{Run.Run}
 
 -- the end of a run f that erases at most b pages
-pub record RunOk (n b : ℕ) (f : St → Out) (img img′ : List ℕ) (mem : Mem) (r : Run) : Type 0 where
-  pub is : end (r .answer) (stOf n img′ (r .mem)) ≡ final (f (stOf n img mem))
+pub record RunOk (G : Geo) (n b : ℕ) (f : St → Out) (img : List ℕ) (p : ℕ) (img′ : List ℕ) (p′ : ℕ) (mem : Mem) (r : Run) : Type 0 where
+  pub is : Through G (f (stOf n img mem)) img p img′ p′ (out (r .answer) (stOf n img′ (r .mem)))
   pub past : Past n (mem .cache) (r .mem .cache)
   pub erased : r .mem .erased ≤ mem .erased + b
 

@@ -1,19 +1,22 @@
 -- Bytes, words and programming, in the form that the loops ask.
 use mathlib.Core.Path.{_≡_, refl, sym, ap, _∙_}
 use mathlib.Core.Logic.{_⊎_, inl, inr, ⊎-elim}
-use Prim.Native.Nat.{ℕ, zero, suc, _+_, _-_, _*_, _/_, _^_, _≤_, _<_}
+use Prim.Native.Nat.{ℕ, zero, suc, _+_, _-_, _*_, _/_, _^_, _≤_, _<_, min}
 use native.Mathlib.Omega.{arith}
 use native.Mathlib.Numerals.{add-one}
 use native.Mathlib.Nat.{eq-or-lt-of-le, pow-suc}
-use mathlib.Core.Bool.{true, false}
+use mathlib.Core.Bool.{Bool, true, false}
 use mathlib.Core.List.{List, [], _∷_}
 use lib.ListN.{length, getD, set, take, drop, replicate, length-drop, length-replicate, take-append-drop, drop-of-length-le}
-use lib.Seq.{drop-cons, drop-drop, length-take-le}
+use lib.Seq.{drop-cons, drop-drop, length-take-le, take-all}
 use lib.Bits.{bitAnd}
 use lib.Count.{ones, ones-step, ones-cat}
-use borrow.Author.Tests.{ne-eqb, eq-eqb}
-use Rattle.rules.specs.Bytes.{Bytes, both, zerosIn, zeroBits, zeros, allFF, ofLe, splice, program}
+use borrow.Author.Tests.{ne-eqb, eq-eqb, leb-true, leb-false}
+use lib.Dec.{leb}
+use Rattle.rules.specs.Bytes.{Bytes, pick, both, zerosIn, zeroBits, zeros, allFF, ofLe, splice, program}
 use Rattle.laws.specs.ByteLaws.{Bytes-take, Bytes-drop, allFF-append}
+use Rattle.rules.specs.Power.{endless, lasts, spend, taken}
+use Rattle.laws.specs.Power.{Wrote, lasts-none, spend-none}
 use Rattle.laws.specs.Programs.{program-nil, program-cons, splice-nil, splice-cons}
 
 pub zeros-ones : (k n : ℕ) → n < 2 ^ k → zerosIn k n + ones n ≡ k
@@ -135,3 +138,25 @@ fill-end l a n i h = let z : n - i ≡ 0 = omega arith in rw z (splice-nil l (a 
 
 pub program-end : (l b : List ℕ) (a i : ℕ) → length b ≤ i → program l (a + i) (drop i b) ≡ l
 program-end l b a i h = rw (drop-of-length-le b h) (program-nil l (a + i))
+
+-- the bytes that the power allows are programmed, and it pays for them
+pub wrote-some : (l l′ b : List ℕ) (p p′ at m : ℕ) → length b < 18446744073709551616 → m ≡ min p (length b) → l′ ≡ program l at (take m b) → p′ ≡ spend p m → Wrote l p l′ p′ at b
+unfolding spend taken
+wrote-some l l′ b p p′ at m h e f g = go (leb endless p) refl
+  where
+    go : (c : Bool) → leb endless p ≡ c → Wrote l p l′ p′ at b
+    go true k =
+        let d = leb-true endless p k in
+        record { is = f ∙ rw (k, take-all m b (omega arith)); left = g ∙ rw k }
+    go false k =
+        let d = leb-false endless p k in
+        let t : take m b ≡ take p b = rw e (short (leb p (length b)) refl) in
+        record { is = f ∙ rw (k, t); left = g ∙ rw k (omega arith) }
+      where
+        short : (c : Bool) → leb p (length b) ≡ c → take (min p (length b)) b ≡ take p b
+        short true q = let z : min p (length b) ≡ p = omega (arith, leb-true p (length b) q) in rw z
+        short false q = let r = leb-false p (length b) q in rw (take-all (min p (length b)) b (omega arith), take-all p b (omega arith))
+
+-- without power an erase is not begun
+pub erase-none : (l l′ : List ℕ) (p : ℕ) → p ≤ 0 → (l ≡ pick (lasts p 1) l′ l) × (p ≡ spend p 1)
+erase-none l l′ p h = let z : p ≡ 0 = omega arith in (rw (z, lasts-none), rw (z, spend-none 1))

@@ -1,8 +1,10 @@
 // Bytes, zero bits, little-endian numbers, sizes, and the two changes of the image.
 ghost use mathlib.Core.Path.{_≡_};
-ghost use Prim.Native.Nat.{_+_, _*_, _^_, _≤_, _<_};
+ghost use Prim.Native.Nat.{_+_, _*_, _^_, _≤_, _<_, min};
 ghost use lib.ListN.{length, take, drop, replicate};
-ghost use Rattle.rules.specs.Bytes.{zeroBits, zeros, allFF, ofLe, roundUp, splice, program};
+ghost use Rattle.rules.specs.Power.{lasts, spend};
+ghost use Rattle.laws.specs.Power.{Wrote};
+ghost use Rattle.rules.specs.Bytes.{zeroBits, zeros, allFF, ofLe, roundUp, splice, program, pick};
 ghost use Rattle.rules.specs.Items.{size};
 
 // A byte as a number, with its bound.
@@ -162,8 +164,8 @@ pub fn size(w: usize, len: usize) -> usize
     8 + round_up(w, len)
 }
 
-// Programs bytes at a place: each bit becomes the AND of old and new. All of the map's programming is done here.
-pub fn program(img: &mut [u8], at: usize, b: &[u8])
+// Programs bytes at a place: each bit becomes the AND of old and new.
+fn and_bytes(img: &mut [u8], at: usize, b: &[u8])
     requires { ⌜ at + length (now b) ≤ length (now img) ⌝ }
     ensures { λ _. ⌜ now (img .exit) ≡ program (now (img .entry)) at (now (b .entry)) ⌝ }
 {
@@ -174,8 +176,8 @@ pub fn program(img: &mut [u8], at: usize, b: &[u8])
     }
 }
 
-// Erases n bytes from a place on: they become 0xFF. All of the map's erasing is done here.
-pub fn erase(img: &mut [u8], at: usize, n: usize)
+// Makes n bytes from a place on 0xFF.
+fn blank_bytes(img: &mut [u8], at: usize, n: usize)
     requires { ⌜ at + n ≤ length (now img) ⌝ }
     ensures { λ _. ⌜ now (img .exit) ≡ splice (now (img .entry)) at (replicate n 255) ⌝ }
 {
@@ -183,5 +185,50 @@ pub fn erase(img: &mut [u8], at: usize, n: usize)
     while i < n {
         img[at + i] = 255;
         i += 1;
+    }
+}
+
+// So much power never runs out.
+pub const ENDLESS: usize = 18446744073709551615;
+
+// How many of n units the power allows.
+fn allowed(p: usize, n: usize) -> usize
+    ensures { λ r. ⌜ r ≡ min p n ⌝ }
+{
+    if p < n { p } else { n }
+}
+
+// What is left of the power after n units.
+fn spend(p: usize, n: usize) -> usize
+    requires { ⌜ n ≤ p ⌝ }
+    ensures { λ r. ⌜ r ≡ spend p n ⌝ }
+{
+    if p < ENDLESS {
+        return p - n;
+    }
+    p
+}
+
+// Programs bytes at a place while the power lasts, a unit for each. All of the map's programming is done here.
+pub fn program(img: &mut [u8], at: usize, b: &[u8], power: &mut usize)
+    requires { ⌜ at + length (now b) ≤ length (now img) ⌝ }
+    ensures { λ _. ⌜ Wrote (now (img .entry)) (now (power .entry)) (now (img .exit)) (now (power .exit)) at (now (b .entry)) ⌝ }
+{
+    let p = *power;
+    let n = allowed(p, b.len());
+    and_bytes(img, at, &b[..n]);
+    *power = spend(p, n);
+}
+
+// Erases n bytes from a place on, if there is a unit of power: they become 0xFF. All of the map's erasing is done here.
+pub fn erase(img: &mut [u8], at: usize, n: usize, power: &mut usize)
+    requires { ⌜ at + n ≤ length (now img) ⌝ }
+    ensures { λ _. ⌜ (now (img .exit) ≡ pick (lasts (now (power .entry)) 1) (splice (now (img .entry)) at (replicate n 255)) (now (img .entry)))
+        × (now (power .exit) ≡ spend (now (power .entry)) 1) ⌝ }
+{
+    let p = *power;
+    if 0 < p {
+        blank_bytes(img, at, n);
+        *power = spend(p, 1);
     }
 }

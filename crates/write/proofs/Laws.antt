@@ -12,10 +12,10 @@ use mathlib.Core.List.{List, [], _∷_, _++_}
 use lib.ListN.{length, getD, set, take, drop, replicate, length-append, length-replicate, length-drop, length-take, take-append-drop, drop-of-length-le}
 use lib.Seq.{drop-cons, drop-drop, take-append-le, drop-append-le, length-take-le, take-suc, take-take, set-at, append-snoc, getD-drop}
 use Rattle.laws.specs.Splice.{take-over, window-replicate, drop-take}
-use Rattle.rules.specs.Bytes.{program, toLe, roundUp, zeros}
+use Rattle.rules.specs.Bytes.{toLe, roundUp, zeros}
 use Rattle.rules.specs.Items.{pad, size, checkOf, encode, encodeData}
 use Rattle.laws.specs.Words.{le-roundUp, roundUp-lt, roundUp-words, word-in}
-use Rattle.laws.specs.Programs.{program-nil, program-append, program-window}
+use Rattle.laws.specs.Power.{Wrote, wrote-append, wrote-more, wrote-all, wrote-window}
 use Rattle.laws.specs.Encoding.{length-pad}
 use Rattle.write.specs.Code.{from, dataBytes, copyBytes, Programmed}
 
@@ -106,29 +106,13 @@ module _ (w k : ℕ) (v : List ℕ) (hw : 4 ≤ w) (h8 : w ≤ 8) where
       let l : m ≤ length (drop j v) = rw length-drop (omega arith) in
       sym (ap (λ (x : ℕ). take m (drop x (dataBytes w k v))) q ∙ rw (drop-append-le j v (pad w (4 + length v)) (omega arith)) (take-append-le m (drop j v) (pad w (4 + length v)) l))
 
--- ---- a piece of what is programmed
-
-pub piece : (l l′ P x : List ℕ) (a i m : ℕ) → i + m ≤ length P → a + length P ≤ length l → x ≡ take m (drop i P) → l′ ≡ program l (a + i) x
-    → program l (a + i) (drop i P) ≡ program l′ (a + (i + m)) (drop (i + m) P)
-piece l l′ P x a i m h g e e′ =
-    let lx : length (take m (drop i P)) ≡ m = length-take-le m (drop i P) (rw length-drop (omega arith)) in
-    let ld = length-drop m (drop i P) in
-    let lp = length-drop i P in
-    let q : a + (i + m) ≡ a + i + length (take m (drop i P)) = omega arith in
-    let s : drop i P ≡ take m (drop i P) ++ drop m (drop i P) = sym (take-append-drop m (drop i P)) in
-    ap (program l (a + i)) s ∙ program-append l (a + i) (take m (drop i P)) (drop m (drop i P)) (omega arith)
-    ∙ rw (q, e′, e, drop-drop m i P)
-
-pub piece-none : (l P : List ℕ) (a i : ℕ) → length P ≤ i → program l (a + i) (drop i P) ≡ l
-piece-none l P a i h = rw (drop-of-length-le P h) (program-nil l (a + i))
-
 -- steps of whole words
 pub on-word : (w i m : ℕ) → i % w ≡ 0 → m % w ≡ 0 → (i + m) % w ≡ 0
 on-word w i m h g = add-mod i m w ∙ rw (h, g) (zero-mod w)
 
 -- ---- the two ways of `write_some`
 
-module _ (img img′ v : List ℕ) (a w k i : ℕ) (hw : 4 ≤ w) (h8 : w ≤ 8) (hi : i % w ≡ 0) (hin : i < 4 + length v)
+module _ (img img′ v : List ℕ) (p p′ a w k i : ℕ) (hw : 4 ≤ w) (h8 : w ≤ 8) (hi : i % w ≡ 0) (hin : i < 4 + length v)
     (room : a + length (dataBytes w k v) ≤ length img) where
   -- a word stands before the end of the data
   pub word-fits : i + w ≤ length (dataBytes w k v)
@@ -142,32 +126,34 @@ module _ (img img′ v : List ℕ) (a w k i : ℕ) (hw : 4 ≤ w) (h8 : w ≤ 8)
   pub value-fits : (m : ℕ) → m ≤ 4 + length v - i → a + i + length (take (i - 4 + m - (i - 4)) (drop (i - 4) v)) ≤ length img
   value-fits m hm = omega (arith, data-fits, length-take (i - 4 + m - (i - 4)) (drop (i - 4) v))
 
-  pub by-value : (m : ℕ) → 4 ≤ i → m ≤ 4 + length v - i → 0 < m → m % w ≡ 0 → img′ ≡ program img (a + i) (take (i - 4 + m - (i - 4)) (drop (i - 4) v))
-      → Programmed img img′ (dataBytes w k v) a w i (i + m)
+  pub by-value : (m : ℕ) → 4 ≤ i → m ≤ 4 + length v - i → 0 < m → m % w ≡ 0 → Wrote img p img′ p′ (a + i) (take (i - 4 + m - (i - 4)) (drop (i - 4) v))
+      → Programmed img p img′ p′ (dataBytes w k v) a w i (i + m)
   by-value m h4 hm m₊ mw e =
       let df = data-fits in
       let q : i - 4 + m - (i - 4) ≡ m = omega arith in
-      let e′ : img′ ≡ program img (a + i) (take m (drop (i - 4) v)) = rw q at e in
+      let z : i + m - i ≡ m = omega arith in
+      let e′ : Wrote img p img′ p′ (a + i) (take m (drop (i - 4) v)) = rw q at e in
       record {
         on = omega arith;
         in-it = omega arith;
         word = on-word w i m hi mw;
-        left = piece img img′ (dataBytes w k v) (take m (drop (i - 4) v)) a i m (omega arith) room (value-is w k v hw h8 i m h4 (omega arith)) e′;
+        wrote = rw (z, ← value-is w k v hw h8 i m h4 (omega arith)) e′;
       }
 
-  pub by-word : img′ ≡ program img (a + i) (take w (from (toLe 4 k ++ v) i 8)) → Programmed img img′ (dataBytes w k v) a w i (i + w)
+  pub by-word : Wrote img p img′ p′ (a + i) (take w (from (toLe 4 k ++ v) i 8)) → Programmed img p img′ p′ (dataBytes w k v) a w i (i + w)
   by-word e =
       let wf = word-fits in
+      let z : i + w - i ≡ w = omega arith in
       record {
         on = omega arith;
         in-it = wf;
         word = on-word w i w hi (mod-self w);
-        left = piece img img′ (dataBytes w k v) (take w (from (toLe 4 k ++ v) i 8)) a i w wf room (word-is w k v hw h8 i wf) e;
+        wrote = rw (z, ← word-is w k v hw h8 i wf) e;
       }
 
 -- ---- the whole of the data is written where all of it is programmed
-pub all-written : (img P : List ℕ) (a w i n : ℕ) → i % w ≡ 0 → length P % w ≡ 0 → length P < n + w → n ≤ i → i ≤ length P → program img (a + i) (drop i P) ≡ img
-all-written img P a w i n hi hP lt hn le = piece-none img P a i (go (ltb i (length P)) refl)
+pub all-in : (P : List ℕ) (w i n : ℕ) → i % w ≡ 0 → length P % w ≡ 0 → length P < n + w → n ≤ i → i ≤ length P → length P ≤ i
+all-in P w i n hi hP lt hn le = go (ltb i (length P)) refl
   where
     go : (b : Bool) → ltb i (length P) ≡ b → length P ≤ i
     go true e = let s = word-in w i (length P) hi hP (ltb-true i (length P) e) in absurd (omega arith)
@@ -193,15 +179,15 @@ item-is w k C v hC =
     let c : checkOf (toLe 4 k ++ v) ≡ C = omega (arith, zeros-more (toLe 4 k) v) in
     rw (l, c)
 
-pub item-written : (l l₁ l₂ : List ℕ) (at w k C : ℕ) (H v : List ℕ) → 4 ≤ w → w ≤ 8 → at + size w (4 + length v) ≤ length l
-    → C ≡ zeros (toLe 4 k) + zeros v + 1 → H ≡ headOf (4 + length v) C → l₁ ≡ program l at H → l₂ ≡ program l₁ (at + 8) (dataBytes w k v)
-    → l₂ ≡ program l at (encode w k v)
-item-written l l₁ l₂ at w k C H v hw h8 room hC hH e₁ e₂ =
+pub item-written : (l l₁ l₂ : List ℕ) (p p₁ p₂ at w k C : ℕ) (H v : List ℕ) → 4 ≤ w → w ≤ 8 → at + size w (4 + length v) ≤ length l
+    → C ≡ zeros (toLe 4 k) + zeros v + 1 → H ≡ headOf (4 + length v) C → Wrote l p l₁ p₁ at H → Wrote l₁ p₁ l₂ p₂ (at + 8) (dataBytes w k v)
+    → Wrote l p l₂ p₂ at (encode w k v)
+item-written l l₁ l₂ p p₁ p₂ at w k C H v hw h8 room hC hH e₁ e₂ =
     let sd = size-data w k v hw h8 in
-    let P : List ℕ = dataBytes w k v in
-    let q : at + length (headOf (4 + length v) C) ≡ at + 8 = omega arith in
-    let e₁′ : l₁ ≡ program l at (headOf (4 + length v) C) = e₁ ∙ ap (program l at) hH in
-    e₂ ∙ rw (e₁′, ← q) (sym (program-append l at (headOf (4 + length v) C) P (omega arith))) ∙ ap (program l at) (item-is w k C v hC)
+    let lH : length H ≡ 8 = ap length hH in
+    let q : headOf (4 + length v) C ++ dataBytes w k v ≡ encode w k v = item-is w k C v hC in
+    let r : H ++ dataBytes w k v ≡ encode w k v = ap (λ (x : List ℕ). x ++ dataBytes w k v) hH ∙ q in
+    rw (← r) (wrote-append l l₁ l₂ p p₁ p₂ at (at + 8) H (dataBytes w k v) e₁ e₂ (omega arith) (omega arith))
 
 -- ---- copies
 
@@ -236,8 +222,8 @@ module _ (img : List ℕ) (s n w i : ℕ) (h8 : w ≤ 8) (hi : i < n) (hs : s + 
 
 -- ---- a copy of bytes, block by block
 
-module _ (img₀ : List ℕ) (s m t : ℕ) (hs : s + m ≤ length img₀) (ht : t + m ≤ length img₀) (img img′ : List ℕ) (i k : ℕ) (hk : i + k ≤ m)
-    (li : length img ≡ length img₀) (same : take m (drop s img) ≡ take m (drop s img₀)) (e : img′ ≡ program img (t + i) (take k (drop (s + i) img))) where
+module _ (img₀ : List ℕ) (s m t : ℕ) (hs : s + m ≤ length img₀) (ht : t + m ≤ length img₀) (img img′ : List ℕ) (p p′ i k : ℕ) (hk : i + k ≤ m)
+    (li : length img ≡ length img₀) (same : take m (drop s img) ≡ take m (drop s img₀)) (e : Wrote img p img′ p′ (t + i) (take k (drop (s + i) img))) where
   whole-is : length (take m (drop s img₀)) ≡ m
   whole-is = length-take-le m (drop s img₀) (rw length-drop (omega arith))
 
@@ -245,13 +231,16 @@ module _ (img₀ : List ℕ) (s m t : ℕ) (hs : s + m ≤ length img₀) (ht : 
   block-is =
       sym (ap (λ (x : List ℕ). take k (drop i x)) (sym same) ∙ rw (drop-take i m (drop s img), drop-drop i s img) (take-take k (m - i) (drop (s + i) img) (omega arith)))
 
-  pub block-left : program img (t + i) (drop i (take m (drop s img₀))) ≡ program img′ (t + (i + k)) (drop (i + k) (take m (drop s img₀)))
-  block-left = let l = whole-is in piece img img′ (take m (drop s img₀)) (take k (drop (s + i) img)) t i k (omega arith) (omega arith) block-is e
+  pub block-left : (p₀ : ℕ) → Wrote img₀ p₀ img p t (take i (take m (drop s img₀))) → Wrote img₀ p₀ img′ p′ t (take (i + k) (take m (drop s img₀)))
+  block-left p₀ w =
+      let l = whole-is in
+      let z : i + k - i ≡ k = omega arith in
+      wrote-more img₀ img img′ (take m (drop s img₀)) p₀ p p′ t i (i + k) w (rw (z, ← block-is) e) (omega arith) (omega arith) (omega arith)
 
   pub block-source : ((s + m ≤ t) ⊎ (t + m ≤ s)) → take m (drop s img′) ≡ take m (drop s img₀)
   block-source d =
       let lx : length (take k (drop (s + i) img)) ≤ k = rw (length-take k (drop (s + i) img)) (omega arith) in
-      rw e (program-window img (t + i) (take k (drop (s + i) img)) (omega arith) s m (⊎-elim (λ x. inl (omega arith)) (λ x. inr (omega arith)) d) ∙ same)
+      wrote-window img img′ (take k (drop (s + i) img)) p p′ (t + i) e (omega arith) s m (⊎-elim (λ x. inl (omega arith)) (λ x. inr (omega arith)) d) ∙ same
 
 -- ---- a copy of an item
 
@@ -281,43 +270,42 @@ module _ (img₀ : List ℕ) (s len t w : ℕ) (hw : 4 ≤ w) (h8 : w ≤ 8) (h8
       word-in w i (length (copyBytes w img₀ s len)) hi copy-on (rw length-copy (omega (arith, le-roundUp w len (omega arith))))
 
   -- the whole words up to m are programmed
-  module _ (img : List ℕ) (m : ℕ) (hm : m % w ≡ 0) (le : m ≤ 8 + len) (lt : 8 + len < m + w) (ht : t + size w len ≤ length img₀)
-      (d : (s + 8 + len ≤ t) ⊎ (t + size w len ≤ s)) (e : img ≡ program img₀ t (take m (drop s img₀))) where
-    front : take m (drop s img₀) ≡ take m (drop 0 (copyBytes w img₀ s len))
+  module _ (img : List ℕ) (p₀ p m : ℕ) (hm : m % w ≡ 0) (le : m ≤ 8 + len) (lt : 8 + len < m + w) (ht : t + size w len ≤ length img₀)
+      (d : (s + 8 + len ≤ t) ⊎ (t + size w len ≤ s)) (e : Wrote img₀ p₀ img p t (take m (drop s img₀))) where
+    front : take m (drop s img₀) ≡ take m (copyBytes w img₀ s len)
     unfolding copyBytes
     front =
         let l : length (take (8 + len) (drop s img₀)) ≡ 8 + len = length-take-le (8 + len) (drop s img₀) (rw length-drop (omega arith)) in
         sym (take-append-le m (take (8 + len) (drop s img₀)) (pad w len) (omega arith) ∙ take-take m (8 + len) (drop s img₀) le)
 
-    fronted : program img₀ t (copyBytes w img₀ s len) ≡ program img (t + m) (drop m (copyBytes w img₀ s len))
-    fronted =
-        let lc = length-copy in
-        let lo = item-long w len hw in
-        let z : t + 0 ≡ t = omega arith in
-        rw (z, zero-add m) at (piece img₀ img (copyBytes w img₀ s len) (take m (drop s img₀)) t 0 m (omega arith) (omega arith) front (rw z e))
+    fronted : Wrote img₀ p₀ img p t (take m (copyBytes w img₀ s len))
+    fronted = rw (← front) e
 
     -- no byte is left
-    pub copy-done : 8 + len ≤ m → img ≡ program img₀ t (copyBytes w img₀ s len)
+    pub copy-done : 8 + len ≤ m → Wrote img₀ p₀ img p t (copyBytes w img₀ s len)
     copy-done h =
         let lc = length-copy in
         let lo = item-long w len hw in
-        sym (fronted ∙ all-written img (copyBytes w img₀ s len) t w m (8 + len) hm copy-on copy-lt h (omega arith))
+        wrote-all img₀ img (copyBytes w img₀ s len) p₀ p t m fronted (all-in (copyBytes w img₀ s len) w m (8 + len) hm copy-on copy-lt h (omega arith))
 
     kept : take (8 + len) (drop s img) ≡ take (8 + len) (drop s img₀)
     kept =
         let lx : length (take m (drop s img₀)) ≤ m = rw (length-take m (drop s img₀)) (omega arith) in
         let lo = item-long w len hw in
-        rw e (program-window img₀ t (take m (drop s img₀)) (omega arith) s (8 + len) (⊎-elim (λ x. inl (omega arith)) (λ x. inr (omega arith)) d))
+        wrote-window img₀ img (take m (drop s img₀)) p₀ p t e (omega arith) s (8 + len) (⊎-elim (λ x. inl (omega arith)) (λ x. inr (omega arith)) d)
 
     -- the last bytes are a word with padding
-    pub copy-last : length img ≡ length img₀ → m < 8 + len → (img′ : List ℕ) → img′ ≡ program img (t + m) (take (8 + len - m) (drop (s + m) img) ++ replicate (w - (8 + len - m)) 255)
-        → img′ ≡ program img₀ t (copyBytes w img₀ s len)
+    pub copy-last : length img ≡ length img₀ → m < 8 + len → (img′ : List ℕ) (p′ : ℕ)
+        → Wrote img p img′ p′ (t + m) (take (8 + len - m) (drop (s + m) img) ++ replicate (w - (8 + len - m)) 255)
+        → Wrote img₀ p₀ img′ p′ t (copyBytes w img₀ s len)
     unfolding copyBytes pad
-    copy-last li h img′ e′ =
+    copy-last li h img′ p′ e′ =
         let lc = length-copy in
         let ci = copy-in m hm h in
-        let e″ : img′ ≡ program img (t + m) (take w (from (take (8 + len) (drop s img)) m 8)) = e′ ∙ ap (program img (t + m)) (next-short img s (8 + len) w m h8 h (omega arith) (omega arith)) in
+        let z : m + w - m ≡ w = omega arith in
+        let e″ : Wrote img p img′ p′ (t + m) (take w (from (take (8 + len) (drop s img)) m 8)) = rw (next-short img s (8 + len) w m h8 h (omega arith) (omega arith)) at e′ in
         let word : take w (from (take (8 + len) (drop s img)) m 8) ≡ take w (drop m (copyBytes w img₀ s len)) =
         ap (λ (x : List ℕ). take w (from x m 8)) kept ∙ word-of (take (8 + len) (drop s img₀)) (roundUp w len - len) m w h8 ci in
-        let left = piece img img′ (copyBytes w img₀ s len) (take w (from (take (8 + len) (drop s img)) m 8)) t m w ci (omega arith) word e″ in
-        sym (fronted ∙ left ∙ all-written img′ (copyBytes w img₀ s len) t w (m + w) (8 + len) (on-word w m w hm (mod-self w)) copy-on copy-lt (omega arith) ci)
+        let more = wrote-more img₀ img img′ (copyBytes w img₀ s len) p₀ p p′ t m (m + w) fronted (rw (z, ← word) e″) (omega arith) ci (omega arith) in
+        wrote-all img₀ img′ (copyBytes w img₀ s len) p₀ p′ t (m + w) more
+        (all-in (copyBytes w img₀ s len) w (m + w) (8 + len) (on-word w m w hm (mod-self w)) copy-on copy-lt (omega arith) ci)

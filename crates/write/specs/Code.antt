@@ -1,10 +1,11 @@
 -- The bytes that the code writes, as it builds them.
 use mathlib.Core.Path.{_≡_}
-use Prim.Native.Nat.{ℕ, zero, suc, _+_, _%_, _≤_, _<_}
+use Prim.Native.Nat.{ℕ, zero, suc, _+_, _-_, _%_, _≤_, _<_}
 use mathlib.Core.List.{List, [], _∷_, _++_}
 use lib.ListN.{length, getD, take, drop}
-use Rattle.rules.specs.Bytes.{toLe, program}
+use Rattle.rules.specs.Bytes.{toLe}
 use Rattle.rules.specs.Items.{pad}
+use Rattle.laws.specs.Power.{Wrote}
 
 -- n bytes of l from i on, and 0xFF past its end
 abbrev pub from : List ℕ → ℕ → ℕ → List ℕ
@@ -19,9 +20,9 @@ dataBytes w k v = (toLe 4 k ++ v) ++ pad w (4 + length v)
 unfoldable pub copyBytes : ℕ → List ℕ → ℕ → ℕ → List ℕ
 copyBytes w img s len = take (8 + len) (drop s img) ++ pad w len
 
--- of the bytes P at a, whole words from byte i up to byte r are programmed: what is left to do then gives the same image
-pub record Programmed (img img′ P : List ℕ) (a w i r : ℕ) : Type 0 where
+-- of the bytes P at a, whole words from byte i up to byte r are programmed
+pub record Programmed (img : List ℕ) (p : ℕ) (img′ : List ℕ) (p′ : ℕ) (P : List ℕ) (a w i r : ℕ) : Type 0 where
   pub on : i < r
   pub in-it : r ≤ length P
   pub word : r % w ≡ 0
-  pub left : program img (a + i) (drop i P) ≡ program img′ (a + r) (drop r P)
+  pub wrote : Wrote img p img′ p′ (a + i) (take (r - i) (drop i P))

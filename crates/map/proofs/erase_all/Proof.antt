@@ -1,53 +1,14 @@
--- `map::erase_all` meets its contract: it is refused, or it runs.
-use Rattle.rules.specs.Remove.{eraseAll}
-use mathlib.Core.Path.{refl}
+-- `map::erase_all` meets its contract: an erase of all pages with endless power.
+use Rattle.map.proofs.Laws.{whole-endless}
 use native.Mathlib.Omega.{arith}
-use Rattle.rules.specs.Calls.{noCursor, called}
-use Rattle.cache.specs.Code.{pointers}
-use mathlib.Core.Logic.{inl}
-use Rattle.laws.specs.Geometry.{fits, page-some, held}
-use Rattle.map.proofs.Laws.{refused, ran}
 use borrow.Author.Needs.{needs}
 use Rattle.map.proofs.erase_all.Statement.{statement}
 use Rattle.map.proofs.erase_all.Tie as tie
 
 returns : tie.Need-returns
-unfolding called
-returns c =
-    let a = c .before .before .before .before .args in
-    let no = c .before .before .refusal in
-    let d = c .before .number in
-    refused (a .page) (a .size) 0 (a .img .now) (no .result) (d .result) (no .ensures) (d .ensures) (λ G s. eraseAll G s) (λ G o. noCursor) noCursor (c .if1 .taken) (pointers 32 (a .cache))
-
-geometry-requires : tie.Need-geometry-requires
-geometry-requires c κs =
-    let a = c .before .before .before .before .args in
-    let no = c .before .before .refusal in
-    let d = c .before .number in
-    page-some 4 (a .page) (a .size) 0 (a .img .now) (inl refl) (no .result) (d .result) (no .ensures) (d .ensures) (c .if1 .left)
-
-erase-all-requires : tie.Need-erase-all-requires
-erase-all-requires c κs =
-    let a = c .before .before .before .before .before .before .args in
-    let no = c .before .before .before .before .refusal in
-    let d = c .before .before .before .number in
-    let z = c .before .before .if1 .left in
-    let F = fits 4 (a .page) (a .size) 0 (a .img .now) (inl refl) (no .result) (d .result) (no .ensures) (d .ensures) z in
-    (held 4 (a .page) (a .size) 0 (a .img .now) (inl refl) (no .result) (d .result) (no .ensures) (d .ensures) z (c .before .geometry .result) (c .before .geometry .ensures), F .cached, omega arith)
-
-returns-2 : tie.Need-returns-2
-unfolding called
-returns-2 c =
-    let a = c .before .before .before .before .before .before .before .before .before .before .args in
-    let no = c .before .before .before .before .before .before .before .before .refusal in
-    let d = c .before .before .before .before .before .before .before .number in
-    let g = c .before .before .before .before .before .geometry in
-    let F = c .before .before .before .erase-all in
-    rw (c .hand-back .ensures)
-    (ran (a .page) (a .size) 0 (a .img .now) (no .result) (d .result) (no .ensures) (d .ensures) (λ G s. eraseAll G s) (λ G o. noCursor) noCursor (c .before .before .before .before .before .before .if1 .left)
-    (a .cache) _ (g .result) (g .ensures) (F .last .0) (F .result) (F .ensures) noCursor refl)
+returns c = whole-endless _ _ _ _ _ 18446744073709551615 _ (c .before .before .erase-all-cut .ensures) (omega arith)
 
 pub erase-all-spec : {M : Type 1} → statement M
 erase-all-spec =
     tie.close (tie.spec
-    (λ c κs. search needs) (λ c κs. search needs) returns geometry-requires erase-all-requires (λ c κs. search needs) (λ c. search needs) returns-2)
+    (λ c κs. search needs) (λ c. search needs) returns)

@@ -1,3 +1,4 @@
+use Rattle.laws.specs.Through.{thr-endless}
 -- `map::fetch_all_items` meets its contract: it is refused, or the walk starts.
 use mathlib.Core.Path.{_≡_, ap, sym, subst, _∙_, refl}
 use lib.ListN.{length}
@@ -32,37 +33,38 @@ geometry-requires c κs =
 
 call-requires : tie.Need-call-requires
 call-requires c κs =
-    let a = c .before .before .before .before .before .before .before .args in
-    let no = c .before .before .before .before .before .refusal in
-    let d = c .before .before .before .before .number in
-    let g = c .before .before .geometry in
-    let z = c .before .before .before .if1 .left in
+    let a = c .before .before .before .before .before .before .before .before .args in
+    let no = c .before .before .before .before .before .before .refusal in
+    let d = c .before .before .before .before .before .number in
+    let g = c .before .before .before .geometry in
+    let z = c .before .before .before .before .if1 .left in
     (held 4 (a .page) (a .size) 0 (a .img .now) (inl refl) (no .result) (d .result) (no .ensures) (d .ensures) z (g .result) (g .ensures), fits 4 (a .page) (a .size) 0 (a .img .now) (inl refl) (no .result) (d .result) (no .ensures) (d .ensures) z .cached, omega arith, omega arith)
 
 first-cursor-requires : tie.Need-first-cursor-requires
 first-cursor-requires c κs =
-    let a = c .before .before .before .before .before .before .before .before .before .before .before .before .before .args in
-    let no = c .before .before .before .before .before .before .before .before .before .before .before .refusal in
-    let d = c .before .before .before .before .before .before .before .before .before .before .number in
-    let g = c .before .before .before .before .before .before .before .before .geometry in
-    let r = c .before .before .before .before .before .call in
-    let z = c .before .before .before .before .before .before .before .before .before .if1 .left in
-    let h = held 4 (a .page) (a .size) 0 (a .img .now) (inl refl) (no .result) (d .result) (no .ensures) (d .ensures) z (g .result) (g .ensures) in
-    let e : length (r .last .0) ≡ length (a .img .now) = search needs in
-    (subst (λ n. Held (g .result) n) (sym e) h, has-first (g .result) (a .size) _ (a .img .now) (r .last .0) _ (r .result) (r .ensures))
-
-returns-2 : tie.Need-returns-2
-unfolding called
-returns-2 c =
     let a = c .before .before .before .before .before .before .before .before .before .before .before .before .before .before .args in
     let no = c .before .before .before .before .before .before .before .before .before .before .before .before .refusal in
     let d = c .before .before .before .before .before .before .before .before .before .before .before .number in
     let g = c .before .before .before .before .before .before .before .before .before .geometry in
+    let r = c .before .before .before .before .before .call in
+    let z = c .before .before .before .before .before .before .before .before .before .before .if1 .left in
+    let h = held 4 (a .page) (a .size) 0 (a .img .now) (inl refl) (no .result) (d .result) (no .ensures) (d .ensures) z (g .result) (g .ensures) in
+    let e : length (r .last .0) ≡ length (a .img .now) = search needs in
+    (subst (λ n. Held (g .result) n) (sym e) h, has-first (g .result) (a .size) (a .img .now) (r .last .0) _ (r .result) (thr-endless (g .result) _ _ _ 18446744073709551615 _ _ _ (omega arith) (r .ensures .is)))
+
+returns-2 : tie.Need-returns-2
+unfolding called
+returns-2 c =
+    let a = c .before .before .before .before .before .before .before .before .before .before .before .before .before .before .before .args in
+    let no = c .before .before .before .before .before .before .before .before .before .before .before .before .before .refusal in
+    let d = c .before .before .before .before .before .before .before .before .before .before .before .before .number in
+    let g = c .before .before .before .before .before .before .before .before .before .before .geometry in
     let r = c .before .before .before .before .before .before .call in
-    let at = c .first-cursor .ensures ∙ ap (λ (x : End). firstCursor (g .result) (x .ans) (x .st .img)) (r .ensures .is) in
-    ran (a .page) (a .size) 0 (a .img .now) (no .result) (d .result) (no .ensures) (d .ensures) (λ G s. walkStart G s) startCursor noCursor (c .before .before .before .before .before .before .before .before .before .before .if1 .left) (a .cache) _ (g .result) (g .ensures) (r .last .0) (r .result) (r .ensures) (c .first-cursor .result) at
+    let at = c .first-cursor .ensures ∙ ap (λ (x : End). firstCursor (g .result) (x .ans) (x .st .img)) (thr-endless (g .result) _ _ _ 18446744073709551615 _ _ _ (omega arith) (r .ensures .is)) in
+    ran (a .page) (a .size) 0 (a .img .now) (no .result) (d .result) (no .ensures) (d .ensures) (λ G s. walkStart G s) startCursor noCursor (c .before .before .before .before .before .before .before .before .before .before .before .if1 .left) (a .cache) (g .result) (g .ensures) (r .last .0) (r .result) (thr-endless (g .result) _ _ _ 18446744073709551615 _ _ _ (omega arith) (r .ensures .is)) (r .ensures .past) (c .first-cursor .result) at
 
 pub fetch-all-items-spec : {M : Type 1} → statement M
 fetch-all-items-spec =
     tie.close (tie.spec
-    (λ c κs. search needs) (λ c κs. search needs) returns geometry-requires (λ c. search needs) call-requires first-cursor-requires (λ c. search needs) returns-2)
+    (λ c κs. search needs) (λ c κs. search needs) returns geometry-requires (λ c. search needs) call-requires first-cursor-requires
+    (λ c. search needs) returns-2)

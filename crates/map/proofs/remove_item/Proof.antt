@@ -1,14 +1,14 @@
--- `map::remove_item` meets its contract: a removal behind its refusals.
-use Rattle.rules.specs.Calls.{called}
+-- `map::remove_item` meets its contract: a removal with endless power.
+use Rattle.map.proofs.Laws.{whole-endless}
+use native.Mathlib.Omega.{arith}
 use borrow.Author.Needs.{needs}
 use Rattle.map.proofs.remove_item.Statement.{statement}
 use Rattle.map.proofs.remove_item.Tie as tie
 
 returns : tie.Need-returns
-unfolding called
-returns c = c .before .before .behind .ensures
+returns c = whole-endless _ _ _ _ _ 18446744073709551615 _ (c .before .before .remove-item-cut .ensures) (omega arith)
 
 pub remove-item-spec : {M : Type 1} → statement M
 remove-item-spec =
     tie.close (tie.spec
-    (λ c. search needs) (λ c κs. search needs) (λ c. search needs) returns)
+    (λ c κs. search needs) (λ c. search needs) returns)

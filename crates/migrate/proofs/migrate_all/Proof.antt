@@ -1,3 +1,4 @@
+use Rattle.laws.specs.Through.{Through, thr-refl, thr-to, thr-then}
 -- `migrate::migrate_all` meets its contract: in each turn the run from here is the run from the start.
 use Rattle.migrate.proofs.Laws.{item-one, run-none, run-end, run-skip, run-bad, run-on, far}
 use Rattle.migrate.proofs.Cached.{lies-skip, lies-item, kept-apart, run-apart}
@@ -14,20 +15,20 @@ use Rattle.migrate.proofs.migrate_all.Statement.{statement}
 use Rattle.migrate.proofs.migrate_all.Tie as tie
 
 abbrev Inv-loop : tie.InvT-loop
-Inv-loop img₀ g mem slots a e to w keys₀ places₀ at₀ wp₀ img keys places at wp =
+Inv-loop img₀ g mem slots a e to power₀ w keys₀ places₀ at₀ wp₀ img power keys places at wp =
     (a ≤ at) × (at ≤ e) × (to ≤ wp) × (wp + (e - at) ≤ to + (e - a)) × (length img ≡ length img₀)
     × Kept slots mem (memOf keys places (mem .erased))
-    × (runOf g slots img (memOf keys places (mem .erased)) at e wp ≡ runOf g slots img₀ mem a e to)
+    × Through g (runOf g slots img₀ mem a e to) img₀ power₀ img power (runOf g slots img (memOf keys places (mem .erased)) at e wp)
     × Lies g at e × (length keys ≡ 32) × (length places ≡ 32)
 
 abbrev μ-loop : tie.MeasureT-loop
-μ-loop img₀ g mem slots a e to w keys₀ places₀ at₀ wp₀ img keys places at wp = e - at
+μ-loop img₀ g mem slots a e to power₀ w keys₀ places₀ at₀ wp₀ img power keys places at wp = e - at
 
 loop-holds : tie.Need-loop-holds Inv-loop μ-loop
 loop-holds c =
     let a = c .before .before .before .before .args in
     let p = c .before .before .before .before .pre in
-    (omega arith, omega (arith, p), omega arith, omega arith, refl, kept-refl _ _, refl, p .2, search needs, search needs)
+    (omega arith, omega (arith, p), omega arith, omega arith, refl, kept-refl _ _, thr-refl _ _ _ _, p .2, search needs, search needs)
 
 returns : tie.Need-returns Inv-loop μ-loop
 returns c =
@@ -39,7 +40,7 @@ returns c =
     let q = c .before .enum-told in
     let m = c .all-moved in
     rw (m .ensures) (record {
-      run = run-end (a .g) (a .slots) (l .img) (memOf (l .keys) (l .places) (a .mem .erased)) (l .at) (a .e) (l .wp) (omega (arith, p .0 .low)) (omega (arith, p .4, l .inv .4)) (r .result) (t .taken) (r .ensures .0) (q .given .1) ∙ l .inv .6;
+      run = thr-to (a .g) (l .inv .6) (run-end (a .g) (a .slots) (l .img) (memOf (l .keys) (l .places) (a .mem .erased)) (l .at) (a .e) (l .wp) (omega (arith, p .0 .low)) (omega (arith, p .4, l .inv .4)) (r .result) (t .taken) (r .ensures .0) (q .given .1));
       kept = l .inv .5;
     })
 
@@ -76,7 +77,7 @@ loop-again c =
       omega (arith, i .3),
       i .4,
       i .5,
-      sym (run-skip (a .g) (a .slots) (l .img) (memOf (l .keys) (l .places) (a .mem .erased)) (l .at) (a .e) (l .wp) (omega (arith, p .0 .low)) (omega (arith, p .4, l .inv .4)) (r .result) (t .taken) (r .ensures .0) (q .given .1)) ∙ i .6,
+      thr-to (a .g) (i .6) (run-skip (a .g) (a .slots) (l .img) (memOf (l .keys) (l .places) (a .mem .erased)) (l .at) (a .e) (l .wp) (omega (arith, p .0 .low)) (omega (arith, p .4, l .inv .4)) (r .result) (t .taken) (r .ensures .0) (q .given .1)),
       lies-skip (a .g) (l .at) (a .e) (i .7),
       i .8,
       i .9,
@@ -103,11 +104,11 @@ add-next c =
 
 move-cached-requires : tie.Need-move-cached-requires Inv-loop μ-loop
 move-cached-requires c κs =
-    let a = c .before .before .before .before .before .before .before .before .before .before .before .before .before .before .before .args in
-    let p = c .before .before .before .before .before .before .before .before .before .before .before .before .before .before .before .pre in
-    let l = c .before .before .before .before .before .before .before .before .before .before .loop in
-    let r = c .before .before .before .before .before .before .before .look-at in
-    let q = c .before .before .before .before .before .r in
+    let a = c .before .before .before .before .before .before .before .before .before .before .before .before .before .before .before .before .args in
+    let p = c .before .before .before .before .before .before .before .before .before .before .before .before .before .before .before .before .pre in
+    let l = c .before .before .before .before .before .before .before .before .before .before .before .loop in
+    let r = c .before .before .before .before .before .before .before .before .look-at in
+    let q = c .before .before .before .before .before .before .r in
     let f = rw (q .given .1) at (r .ensures .1) in
     let g = rw (q .given .1) at (r .ensures .0) in
     let i = l .inv in (
@@ -126,21 +127,21 @@ move-cached-requires c κs =
 
 loop-less-2 : tie.Need-loop-less-2 Inv-loop μ-loop
 loop-less-2 c =
-    let a = c .before .before .before .before .before .before .before .before .before .before .before .before .before .before .before .before .before .before .before .before .before .args in
-    let p = c .before .before .before .before .before .before .before .before .before .before .before .before .before .before .before .before .before .before .before .before .before .pre in
-    let t = c .before .before .before .before .before .before .before .before .before .before .before .before .before .before .before .loop-test in
-    let z = c .before .before .before .before .before .before .before .before .before .size in
+    let a = c .before .before .before .before .before .before .before .before .before .before .before .before .before .before .before .before .before .before .before .before .before .before .args in
+    let p = c .before .before .before .before .before .before .before .before .before .before .before .before .before .before .before .before .before .before .before .before .before .before .pre in
+    let t = c .before .before .before .before .before .before .before .before .before .before .before .before .before .before .before .before .loop-test in
+    let z = c .before .before .before .before .before .before .before .before .before .before .size in
     omega (arith, t .taken, z .ensures)
 
 loop-again-2 : tie.Need-loop-again-2 Inv-loop μ-loop
 loop-again-2 c =
-    let a = c .before .before .before .before .before .before .before .before .before .before .before .before .before .before .before .before .before .before .before .before .before .args in
-    let p = c .before .before .before .before .before .before .before .before .before .before .before .before .before .before .before .before .before .before .before .before .before .pre in
-    let l = c .before .before .before .before .before .before .before .before .before .before .before .before .before .before .before .before .loop in
-    let t = c .before .before .before .before .before .before .before .before .before .before .before .before .before .before .before .loop-test in
-    let r = c .before .before .before .before .before .before .before .before .before .before .before .before .before .look-at in
-    let q = c .before .before .before .before .before .before .before .before .before .before .before .r in
-    let z = c .before .before .before .before .before .before .before .before .before .size in
+    let a = c .before .before .before .before .before .before .before .before .before .before .before .before .before .before .before .before .before .before .before .before .before .before .args in
+    let p = c .before .before .before .before .before .before .before .before .before .before .before .before .before .before .before .before .before .before .before .before .before .before .pre in
+    let l = c .before .before .before .before .before .before .before .before .before .before .before .before .before .before .before .before .before .loop in
+    let t = c .before .before .before .before .before .before .before .before .before .before .before .before .before .before .before .before .loop-test in
+    let r = c .before .before .before .before .before .before .before .before .before .before .before .before .before .before .look-at in
+    let q = c .before .before .before .before .before .before .before .before .before .before .before .before .r in
+    let z = c .before .before .before .before .before .before .before .before .before .before .size in
     let m = c .before .before .before .before .before .move-cached in
     let s = c .before .s in
     let f = rw (q .given .1) at (r .ensures .1) in
@@ -154,7 +155,7 @@ loop-again-2 c =
       omega (arith, i .3, A .high, f .0, e),
       omega (arith, m .kept, i .4),
       kept-trans _ _ _ _ (i .5) (A .kept),
-      rw e (sym (run-on (a .g) (a .slots) (l .img) (memOf (l .keys) (l .places) (a .mem .erased)) (l .at) (a .e) (l .wp) (omega (arith, p .0 .low)) (omega (arith, p .4, l .inv .4)) (r .result) (t .taken) (r .ensures .0) (q .given .0 .0) (q .given .1) _ _ M refl) ∙ i .6),
+      rw e (thr-then (a .g) (i .6) (run-on (a .g) (a .slots) (l .img) (memOf (l .keys) (l .places) (a .mem .erased)) (l .at) (a .e) (l .wp) (omega (arith, p .0 .low)) (omega (arith, p .4, l .inv .4)) (r .result) (t .taken) (r .ensures .0) (q .given .0 .0) (q .given .1) _ _ _ _ M refl)),
       rw e (lies-item (a .g) (length (a .img .now)) (p .0) (l .at) (a .e) (i .7) (q .given .0 .0)),
       m .ensures .long .0,
       m .ensures .long .1,
@@ -162,13 +163,13 @@ loop-again-2 c =
 
 migrate-one-requires : tie.Need-migrate-one-requires Inv-loop μ-loop
 migrate-one-requires c κs =
-    let a = c .before .before .before .before .before .before .before .before .before .before .before .before .before .before .before .before .before .before .before .before .before .args in
-    let p = c .before .before .before .before .before .before .before .before .before .before .before .before .before .before .before .before .before .before .before .before .before .pre in
-    let l = c .before .before .before .before .before .before .before .before .before .before .before .before .before .before .before .before .loop in
-    let r = c .before .before .before .before .before .before .before .before .before .before .before .before .before .look-at in
-    let q = c .before .before .before .before .before .before .before .before .before .before .before .r in
-    let m = c .before .before .before .before .before .move-cached in
-    let s = c .before .enum-told3 in
+    let a = c .before .before .before .before .before .before .before .before .before .before .before .before .before .before .before .before .before .before .before .before .before .before .before .args in
+    let p = c .before .before .before .before .before .before .before .before .before .before .before .before .before .before .before .before .before .before .before .before .before .before .before .pre in
+    let l = c .before .before .before .before .before .before .before .before .before .before .before .before .before .before .before .before .before .before .loop in
+    let r = c .before .before .before .before .before .before .before .before .before .before .before .before .before .before .before .look-at in
+    let q = c .before .before .before .before .before .before .before .before .before .before .before .before .before .r in
+    let m = c .before .before .before .before .before .before .move-cached in
+    let s = c .before .before .enum-told3 in
     let f = rw (q .given .1) at (r .ensures .1) in
     let i = l .inv in
     let n = m .ensures .ask (s .given .1) in (
@@ -184,29 +185,29 @@ migrate-one-requires c κs =
 
 loop-less-3 : tie.Need-loop-less-3 Inv-loop μ-loop
 loop-less-3 c =
-    let a = c .before .before .before .before .before .before .before .before .before .before .before .before .before .before .before .before .before .before .before .before .before .before .before .before .before .before .before .before .before .args in
-    let p = c .before .before .before .before .before .before .before .before .before .before .before .before .before .before .before .before .before .before .before .before .before .before .before .before .before .before .before .before .before .pre in
-    let t = c .before .before .before .before .before .before .before .before .before .before .before .before .before .before .before .before .before .before .before .before .before .before .before .loop-test in
-    let z = c .before .before .before .before .before .before .before .before .before .before .before .before .before .before .before .before .before .size in
+    let a = c .before .before .before .before .before .before .before .before .before .before .before .before .before .before .before .before .before .before .before .before .before .before .before .before .before .before .before .before .before .before .before .args in
+    let p = c .before .before .before .before .before .before .before .before .before .before .before .before .before .before .before .before .before .before .before .before .before .before .before .before .before .before .before .before .before .before .before .pre in
+    let t = c .before .before .before .before .before .before .before .before .before .before .before .before .before .before .before .before .before .before .before .before .before .before .before .before .before .loop-test in
+    let z = c .before .before .before .before .before .before .before .before .before .before .before .before .before .before .before .before .before .before .before .size in
     omega (arith, t .taken, z .ensures)
 
 loop-again-3 : tie.Need-loop-again-3 Inv-loop μ-loop
 loop-again-3 c =
-    let a = c .before .before .before .before .before .before .before .before .before .before .before .before .before .before .before .before .before .before .before .before .before .before .before .before .before .before .before .before .before .args in
-    let p = c .before .before .before .before .before .before .before .before .before .before .before .before .before .before .before .before .before .before .before .before .before .before .before .before .before .before .before .before .before .pre in
-    let l = c .before .before .before .before .before .before .before .before .before .before .before .before .before .before .before .before .before .before .before .before .before .before .before .before .loop in
-    let t = c .before .before .before .before .before .before .before .before .before .before .before .before .before .before .before .before .before .before .before .before .before .before .before .loop-test in
-    let r = c .before .before .before .before .before .before .before .before .before .before .before .before .before .before .before .before .before .before .before .before .before .look-at in
-    let q = c .before .before .before .before .before .before .before .before .before .before .before .before .before .before .before .before .before .before .before .r in
-    let z = c .before .before .before .before .before .before .before .before .before .before .before .before .before .before .before .before .before .size in
-    let m = c .before .before .before .before .before .before .before .before .before .before .before .before .before .move-cached in
-    let s = c .before .before .before .before .before .before .before .before .before .enum-told3 in
+    let a = c .before .before .before .before .before .before .before .before .before .before .before .before .before .before .before .before .before .before .before .before .before .before .before .before .before .before .before .before .before .before .before .args in
+    let p = c .before .before .before .before .before .before .before .before .before .before .before .before .before .before .before .before .before .before .before .before .before .before .before .before .before .before .before .before .before .before .before .pre in
+    let l = c .before .before .before .before .before .before .before .before .before .before .before .before .before .before .before .before .before .before .before .before .before .before .before .before .before .before .loop in
+    let t = c .before .before .before .before .before .before .before .before .before .before .before .before .before .before .before .before .before .before .before .before .before .before .before .before .before .loop-test in
+    let r = c .before .before .before .before .before .before .before .before .before .before .before .before .before .before .before .before .before .before .before .before .before .before .before .look-at in
+    let q = c .before .before .before .before .before .before .before .before .before .before .before .before .before .before .before .before .before .before .before .before .before .r in
+    let z = c .before .before .before .before .before .before .before .before .before .before .before .before .before .before .before .before .before .before .before .size in
+    let m = c .before .before .before .before .before .before .before .before .before .before .before .before .before .before .move-cached in
+    let s = c .before .before .before .before .before .before .before .before .before .before .enum-told3 in
     let o = c .before .before .before .before .before .before .before .migrate-one in
     let b = c .before .before .before .before .if1 in
     let f = rw (q .given .1) at (r .ensures .1) in
     let i = l .inv in
     let n = m .ensures .ask (s .given .1) in
-    let I = item-one (a .g) (a .slots) (l .img) (memOf (l .keys) (l .places) (a .mem .erased)) (l .at) (a .e) (q .given .0 .0) (l .wp) _ _ (sym (n .3)) (rw (n .0, n .1, n .2) at (o .ensures)) in
+    let I = item-one (a .g) (a .slots) (l .img) (memOf (l .keys) (l .places) (a .mem .erased)) (l .at) (a .e) (q .given .0 .0) (l .wp) _ _ _ _ (sym (n .3)) (rw (n .0, n .1, n .2, n .5) at (o .ensures)) in
     let A = I .around in
     let k = o .ok .1 .1 .0 .1 .1 .0 .1 .1 in
     let e = z .ensures .0 in (
@@ -216,7 +217,7 @@ loop-again-3 c =
       omega (arith, i .3, A .high, f .0, e),
       omega (arith, o .kept, m .kept, i .4),
       kept-trans _ _ _ _ (i .5) (kept-apart _ _ _ (A .kept)),
-      rw e (run-apart _ _ _ _ _ _ _ _ (A .kept) ∙ sym (run-on (a .g) (a .slots) (l .img) (memOf (l .keys) (l .places) (a .mem .erased)) (l .at) (a .e) (l .wp) (omega (arith, p .0 .low)) (omega (arith, p .4, l .inv .4)) (r .result) (t .taken) (r .ensures .0) (q .given .0 .0) (q .given .1) _ _ I (b .taken)) ∙ i .6),
+      rw e (thr-to (a .g) (thr-then (a .g) (i .6) (run-on (a .g) (a .slots) (l .img) (memOf (l .keys) (l .places) (a .mem .erased)) (l .at) (a .e) (l .wp) (omega (arith, p .0 .low)) (omega (arith, p .4, l .inv .4)) (r .result) (t .taken) (r .ensures .0) (q .given .0 .0) (q .given .1) _ _ _ _ I (b .taken))) (sym (run-apart _ _ _ _ _ _ _ _ (A .kept)))),
       rw e (lies-item (a .g) (length (a .img .now)) (p .0) (l .at) (a .e) (i .7) (q .given .0 .0)),
       length-unmapped ℕ (o .result .mem .cache .keys) 32 (k .0 .1 .0 .1),
       length-unmapped ℕ (o .result .mem .cache .places) 32 (k .1 .0 .1 .0 .1),
@@ -224,30 +225,30 @@ loop-again-3 c =
 
 same-length-2 : tie.Need-same-length-2 Inv-loop μ-loop
 same-length-2 c =
-    let a = c .before .before .before .before .before .before .before .before .before .before .before .before .before .before .before .before .before .before .before .before .before .before .before .before .before .args in
-    let p = c .before .before .before .before .before .before .before .before .before .before .before .before .before .before .before .before .before .before .before .before .before .before .before .before .before .pre in
-    let l = c .before .before .before .before .before .before .before .before .before .before .before .before .before .before .before .before .before .before .before .before .loop in
-    let m = c .before .before .before .before .before .before .before .before .before .move-cached in
+    let a = c .before .before .before .before .before .before .before .before .before .before .before .before .before .before .before .before .before .before .before .before .before .before .before .before .before .before .before .args in
+    let p = c .before .before .before .before .before .before .before .before .before .before .before .before .before .before .before .before .before .before .before .before .before .before .before .before .before .before .before .pre in
+    let l = c .before .before .before .before .before .before .before .before .before .before .before .before .before .before .before .before .before .before .before .before .before .before .loop in
+    let m = c .before .before .before .before .before .before .before .before .before .before .move-cached in
     let o = c .before .before .before .migrate-one in
     omega (arith, o .kept, m .kept, l .inv .4)
 
 returns-2 : tie.Need-returns-2 Inv-loop μ-loop
 returns-2 c =
-    let a = c .before .before .before .before .before .before .before .before .before .before .before .before .before .before .before .before .before .before .before .before .before .before .before .before .before .args in
-    let p = c .before .before .before .before .before .before .before .before .before .before .before .before .before .before .before .before .before .before .before .before .before .before .before .before .before .pre in
-    let l = c .before .before .before .before .before .before .before .before .before .before .before .before .before .before .before .before .before .before .before .before .loop in
-    let t = c .before .before .before .before .before .before .before .before .before .before .before .before .before .before .before .before .before .before .before .loop-test in
-    let r = c .before .before .before .before .before .before .before .before .before .before .before .before .before .before .before .before .before .look-at in
-    let q = c .before .before .before .before .before .before .before .before .before .before .before .before .before .before .before .r in
-    let m = c .before .before .before .before .before .before .before .before .before .move-cached in
-    let s = c .before .before .before .before .before .enum-told3 in
+    let a = c .before .before .before .before .before .before .before .before .before .before .before .before .before .before .before .before .before .before .before .before .before .before .before .before .before .before .before .args in
+    let p = c .before .before .before .before .before .before .before .before .before .before .before .before .before .before .before .before .before .before .before .before .before .before .before .before .before .before .before .pre in
+    let l = c .before .before .before .before .before .before .before .before .before .before .before .before .before .before .before .before .before .before .before .before .before .before .loop in
+    let t = c .before .before .before .before .before .before .before .before .before .before .before .before .before .before .before .before .before .before .before .before .before .loop-test in
+    let r = c .before .before .before .before .before .before .before .before .before .before .before .before .before .before .before .before .before .before .before .look-at in
+    let q = c .before .before .before .before .before .before .before .before .before .before .before .before .before .before .before .before .before .r in
+    let m = c .before .before .before .before .before .before .before .before .before .before .move-cached in
+    let s = c .before .before .before .before .before .before .enum-told3 in
     let o = c .before .before .before .migrate-one in
     let b = c .if1 in
     let i = l .inv in
     let n = m .ensures .ask (s .given .1) in
-    let I = item-one (a .g) (a .slots) (l .img) (memOf (l .keys) (l .places) (a .mem .erased)) (l .at) (a .e) (q .given .0 .0) (l .wp) _ _ (sym (n .3)) (rw (n .0, n .1, n .2) at (o .ensures)) in
+    let I = item-one (a .g) (a .slots) (l .img) (memOf (l .keys) (l .places) (a .mem .erased)) (l .at) (a .e) (q .given .0 .0) (l .wp) _ _ _ _ (sym (n .3)) (rw (n .0, n .1, n .2, n .5) at (o .ensures)) in
     record {
-      run = rw (b .left) (run-bad (a .g) (a .slots) (l .img) (memOf (l .keys) (l .places) (a .mem .erased)) (l .at) (a .e) (l .wp) (omega (arith, p .0 .low)) (omega (arith, p .4, l .inv .4)) (r .result) (t .taken) (r .ensures .0) (q .given .0 .0) (q .given .1) _ _ I (b .left) ∙ i .6);
+      run = rw (b .left) (thr-then (a .g) (i .6) (run-bad (a .g) (a .slots) (l .img) (memOf (l .keys) (l .places) (a .mem .erased)) (l .at) (a .e) (l .wp) (omega (arith, p .0 .low)) (omega (arith, p .4, l .inv .4)) (r .result) (t .taken) (r .ensures .0) (q .given .0 .0) (q .given .1) _ _ _ _ I (b .left)));
       kept = kept-trans _ _ _ _ (i .5) (I .around .kept);
     }
 
@@ -259,14 +260,14 @@ returns-3 c =
     let t = c .before .loop-test in
     let m = c .all-moved2 in
     rw (m .ensures) (record {
-      run = run-none (a .g) (a .slots) (l .img) (memOf (l .keys) (l .places) (a .mem .erased)) (l .at) (a .e) (l .wp) (omega (arith, p .0 .low)) (omega (arith, p .4, l .inv .4)) (t .left) ∙ l .inv .6;
+      run = thr-to (a .g) (l .inv .6) (run-none (a .g) (a .slots) (l .img) (memOf (l .keys) (l .places) (a .mem .erased)) (l .at) (a .e) (l .wp) (omega (arith, p .0 .low)) (omega (arith, p .4, l .inv .4)) (t .left));
       kept = l .inv .5;
     })
 
 pub migrate-all-spec : {M : Type 1} → statement M
 migrate-all-spec =
     tie.close (tie.spec
-    Inv-loop μ-loop loop-holds (λ c κs. search needs) (λ c. search needs) (λ c κs. search needs) (λ c. search needs) returns
-    (λ c. search needs) add-at loop-less loop-again (λ c. search needs) size-requires add-next move-cached-requires
-    (λ c. search needs) loop-less-2 loop-again-2 (λ c. search needs) migrate-one-requires loop-less-3 loop-again-3 same-length-2
-    returns-2 (λ c κs. search needs) (λ c. search needs) returns-3)
+    Inv-loop μ-loop loop-holds (λ c κs. search needs) (λ c. search needs) (λ c κs. search needs) (λ c. search needs) returns (λ c. search needs)
+    add-at loop-less loop-again (λ c. search needs) size-requires add-next move-cached-requires (λ c. search needs) loop-less-2 loop-again-2
+    (λ c. search needs) migrate-one-requires loop-less-3 loop-again-3 same-length-2 returns-2 (λ c κs. search needs) (λ c. search needs)
+    returns-3)

@@ -1,8 +1,8 @@
+use Rattle.laws.specs.Through.{Through, thr-refl}
 -- `remove::erase_all` meets its contract: the run over the pages left, over the image as it is, ends as the whole run.
 use Rattle.remove.proofs.Laws.{eraseFrom, erase-on, erased-all}
 use Rattle.remove.specs.Code.{stWith}
 use Rattle.cache.specs.Code.{pointers}
-use Rattle.rules.specs.Runs.{final}
 use Prim.Native.Nat.{_+_, _-_, _≤_}
 use mathlib.Core.Path.{_≡_, refl}
 use native.Mathlib.Omega.{arith}
@@ -12,16 +12,16 @@ use Rattle.remove.proofs.erase_all.Statement.{statement}
 use Rattle.remove.proofs.erase_all.Tie as tie
 
 abbrev Inv-loop : tie.InvT-loop
-Inv-loop img₀ g slots c erased₀ p₀ img erased p = (p ≤ g .pages) × (erased ≡ erased₀ + p) × (length img ≡ length img₀) × (final (eraseFrom g p (stWith img (pointers slots c) erased)) ≡ final (eraseFrom g 0 (stWith img₀ (pointers slots c) erased₀)))
+Inv-loop img₀ g slots power₀ c erased₀ p₀ img power erased p = (p ≤ g .pages) × (erased ≡ erased₀ + p) × (length img ≡ length img₀) × Through g (eraseFrom g 0 (stWith img₀ (pointers slots c) erased₀)) img₀ power₀ img power (eraseFrom g p (stWith img (pointers slots c) erased))
 
 abbrev μ-loop : tie.MeasureT-loop
-μ-loop img₀ g slots c erased₀ p₀ img erased p = g .pages - p
+μ-loop img₀ g slots power₀ c erased₀ p₀ img power erased p = g .pages - p
 
 loop-holds : tie.Need-loop-holds Inv-loop μ-loop
-loop-holds c = (omega arith, omega arith, refl, refl)
+loop-holds c = (omega arith, omega arith, refl, thr-refl _ _ _ _)
 
 add-erased : tie.Need-add-erased Inv-loop μ-loop
-add-erased c = let K = c .before .before .before .before .before .before .before .before .empty .ensures .1 .erased in omega arith
+add-erased c = let K = c .before .before .before .before .before .before .before .before .before .empty .ensures .1 .erased in omega arith
 
 loop-again : tie.Need-loop-again Inv-loop μ-loop
 loop-again c = (omega arith, omega arith, omega arith, search erase-on)

@@ -1,31 +1,22 @@
-use Rattle.words.proofs.Laws.{program-step, program-end}
-use Rattle.rules.specs.Bytes.{program}
-use mathlib.Core.Path.{_≡_, sym, _∙_, refl}
-use Prim.Native.Nat.{_+_, _-_, _≤_}
-use native.Mathlib.Nat.{add-zero}
-use lib.ListN.{length, drop, length-set}
+use lib.ListN.{length}
+use mathlib.Core.Path.{sym}
+use Rattle.words.proofs.Laws.{wrote-some}
 use native.Mathlib.Omega.{arith}
+use lib.Seq.{length-take-le}
 use borrow.Author.Needs.{needs}
 use Rattle.words.proofs.program.Statement.{statement}
 use Rattle.words.proofs.program.Tie as tie
 
-abbrev Inv-loop : tie.InvT-loop
-Inv-loop img₀ at b i₀ img i = (i ≤ length b) × (length img ≡ length img₀) × (program img (at + i) (drop i b) ≡ program img₀ at b)
+slice-aggregate-and-bytes : tie.Need-slice-aggregate-and-bytes
+slice-aggregate-and-bytes c = sym (length-take-le (c .before .before .allowed .result) (c .before .before .before .before .before .before .args .b .now) (omega (arith, c .before .before .allowed .ensures)))
 
-abbrev μ-loop : tie.MeasureT-loop
-μ-loop img₀ at b i₀ img i = length b - i
+and-bytes-requires : tie.Need-and-bytes-requires
+and-bytes-requires c κs = omega (arith, length-take-le (c .before .before .allowed .result) (c .before .before .before .before .before .before .args .b .now) (omega (arith, c .before .before .allowed .ensures)))
 
-loop-holds : tie.Need-loop-holds Inv-loop μ-loop
-loop-holds c = (omega arith, refl, rw (add-zero (c .args .at)))
-
-loop-again : tie.Need-loop-again Inv-loop μ-loop
-loop-again c = let a = c .before .before .before .before .args in let l = c .before .before .before .loop in (omega arith, simp length-set (l .inv .1), sym (program-step (l .img) (a .b .now) (a .at) (l .i) (c .before .before .loop-test .taken) (omega arith)) ∙ l .inv .2)
-
-returns : tie.Need-returns Inv-loop μ-loop
-returns c = let a = c .before .before .args in let l = c .before .loop in sym (program-end (l .img) (a .b .now) (a .at) (l .i) (c .loop-test .left)) ∙ l .inv .2
+returns : tie.Need-returns
+returns c = let a = c .before .before .before .before .before .before .before .before .before .before .args in wrote-some (a .img .now) (c .before .before .before .and-bytes .last .0) (a .b .now) (a .power .now) (c .spend .result) (a .at) (c .before .before .before .before .before .before .allowed .result) (omega arith) (c .before .before .before .before .before .before .allowed .ensures) (c .before .before .before .and-bytes .ensures) (c .spend .ensures)
 
 pub program-spec : {M : Type 1} → statement M
 program-spec =
     tie.close (tie.spec
-    Inv-loop μ-loop loop-holds (λ c. search needs) (λ c. search needs) (λ c. search needs) (λ c. search needs) (λ c. search needs)
-    (λ c. search needs) (λ c. search needs) loop-again (λ c. search needs) returns)
+    (λ c κs. search needs) slice-aggregate-and-bytes and-bytes-requires (λ c κs. search needs) (λ c. search needs) returns)
