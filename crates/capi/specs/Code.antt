@@ -2,18 +2,22 @@
 use mathlib.Core.Path.{_≡_}
 use mathlib.Core.Logic.{_≢_}
 use Prim.Native.Nat.{ℕ, _<_}
+use mathlib.Core.Bool.{Bool, true, false}
 use mathlib.Core.List.{List, [], _∷_, _++_}
 use lib.Dec.{eqb}
 use lib.ListN.{length, getD, take, drop}
 use Rattle.rules.specs.declared.{Cursor.Cursor, Answer.Answer}
-use Rattle.rules.specs.Bytes.{pick}
+use Rattle.rules.specs.Bytes.{pick, both, FlashStep}
+use Rattle.rules.specs.Power.{lasts, spend, units, cutImage}
 use Rattle.rules.specs.Cache.{Pointer, Cache as Entries}
 use Rattle.rules.specs.Answers.{number, isNo}
-use Rattle.rules.specs.Calls.{Told as Handed, Call, noCursor, called, fetchItem, fetchPlain, fetchAllItems, nextItem}
+use Rattle.rules.specs.Calls.{Told as Handed, Call, noCursor, called, fetchItem, fetchPlain, storeItem, removeItem, removeAllItems, eraseAllPages, fetchAllItems, nextItem, stepsOf}
 use Rattle.answer.specs.declared.{Shown.Shown}
 use Rattle.answer.specs.Code.{shownOf}
 use Rattle.cache.specs.declared.{Cache.Cache}
 use Rattle.cache.specs.Code.{entries}
+use Rattle.map.specs.declared.{Told.Told}
+use Rattle.capi.specs.declared.{Change.Change, Change.the-variants.Store, Change.the-variants.Remove, Change.the-variants.RemoveAll, Change.the-variants.EraseAll}
 
 -- a number that fits a word
 abbrev pub Word : ℕ → Type 0
@@ -119,6 +123,33 @@ border E m call i c o =
     let told = called 4 E m call (record { image = i; cache = entriesOf c }) in
     pick (eqb (length c) 64) (pick (eqb (length o) 5) (handed told) wrong) wrong
 
+-- ---- a call that is lent power
+
+-- the lengths of a cache, of a power and of an out are right
+unfoldable pub cutLengths : ℕ → ℕ → ℕ → Bool
+cutLengths c p o = both (eqb c 64) (both (eqb p 1) (eqb o 5))
+
+-- the number returned, and what is lent
+pub record CutLeft : Type 0 where
+  pub no : ℕ
+  pub image : List ℕ
+  pub cache : List ℕ
+  pub power : List ℕ
+  pub out : List ℕ
+
+-- the flash steps of a call
+abbrev pub stepsAt : ℕ → ℕ → Call → List ℕ → List ℕ → List FlashStep
+stepsAt E m call i c = stepsOf 4 E m call (record { image = i; cache = entriesOf c })
+
+-- 255 where a length is wrong, and nothing changes; else the image is what the call's flash steps leave with the power, so much of it is left,
+-- and where it lasts for all of them the call is as it is without it
+pub record CutBorder (E m : ℕ) (call : Call) (i c p o : List ℕ) (l : CutLeft) : Type 0 where
+  pub wrong : cutLengths (length c) (length p) (length o) ≡ false → l ≡ record { no = 255; image = i; cache = c; power = p; out = o }
+  pub image : cutLengths (length c) (length p) (length o) ≡ true → l .image ≡ cutImage E i (getD p 0 0) (stepsAt E m call i c)
+  pub left : cutLengths (length c) (length p) (length o) ≡ true → l .power ≡ spend (getD p 0 0) (units (stepsAt E m call i c)) ∷ []
+  pub whole : cutLengths (length c) (length p) (length o) ≡ true → lasts (getD p 0 0) (units (stepsAt E m call i c)) ≡ true
+      → record { no = l .no; image = l .image; cache = l .cache; out = l .out } ≡ border E m call i c o
+
 -- a plain fetch, which takes no cache
 unfoldable pub plainBorder : ℕ → ℕ → List ℕ → List ℕ → PlainLeft
 plainBorder E k i o =
@@ -140,6 +171,19 @@ stepBorder E i w o =
     pick (eqb (length w) 3) (pick (eqb (length o) 5) (stepHanded w told) wrong) wrong
 
 -- ---- the inner functions
+
+-- the call that a change is
+abbrev pub callOf : Change → List ℕ → Call
+callOf (Store k) v = storeItem k v
+callOf (Remove k) v = removeItem k
+callOf RemoveAll v = removeAllItems
+callOf EraseAll v = eraseAllPages
+
+-- what a call told, if it fits; else something that does
+pub record WordsOk (told r : Told) : Type 0 where
+  pub cache : r .cache ≡ told .cache
+  pub fits : Fits (r .erased) (r .answer)
+  pub same : Fits (told .erased) (told .answer) → r ≡ told
 
 -- an answer other than Corrupted is that of a fetch of key k, which changes nothing
 pub record StillOk (E m k : ℕ) (img ws : List ℕ) (a : Answer) : Type 0 where

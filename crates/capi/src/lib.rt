@@ -7,7 +7,8 @@ ghost use Rattle.rules.specs.Answers.{number};
 ghost use Rattle.rules.specs.Cache.{lookup};
 ghost use Rattle.rules.specs.Calls.{fetchItem, storeItem, removeItem, removeAllItems, eraseAllPages};
 ghost use Rattle.cache.specs.Code.{pointers};
-ghost use Rattle.capi.specs.Code.{Word, Fits, CursorFits, entriesOf, lentCache, StillOk, cacheWords, cursorOf, cursorWords, cursorAfter, outWords, border, plainBorder, startBorder, stepBorder};
+ghost use Rattle.map.specs.Code.{CutOk, lentOf, toldOf};
+ghost use Rattle.capi.specs.Code.{Word, Fits, WordsOk, CursorFits, entriesOf, lentCache, StillOk, cacheWords, cursorOf, cursorWords, cursorAfter, outWords, border, cutLengths, CutBorder, callOf, plainBorder, startBorder, stepBorder};
 use cache::Cache;
 use map::Told;
 use rules::Answer;
@@ -347,6 +348,169 @@ pub extern "C" fn map_erase_all(
     let held = cache_of(cache);
     let told = map::erase_all(img, page, held, size);
     finish(cache, out, told)
+}
+
+// Cache, power and out have their lengths.
+fn cut_lengths(cache: usize, power: usize, out: usize) -> bool
+    ensures { λ r. ⌜ r ≡ cutLengths cache power out ⌝ }
+{
+    if cache != 64 {
+        return false;
+    }
+    if power != 1 {
+        return false;
+    }
+    out == 5
+}
+
+// What a call told, if its numbers fit words; a call that was cut may tell any.
+fn in_words(told: Told) -> Told
+    ensures { λ r. ⌜ WordsOk told r ⌝ }
+{
+    let c = told.cache;
+    let a = told.answer;
+    let erased = told.erased;
+    let s = answer::show(a);
+    if erased < 4294967296 {
+        if s.place < 4294967296 {
+            if s.len < 4294967296 {
+                return Told {
+                    answer: a,
+                    cache: c,
+                    erased,
+                };
+            }
+        }
+    }
+    Told {
+        answer: Answer::Corrupted,
+        cache: c,
+        erased: 0,
+    }
+}
+
+// A call that changes the map, and that can be cut.
+enum Change {
+    Store(u32),
+    Remove(u32),
+    RemoveAll,
+    EraseAll,
+}
+
+// A change while the power lasts.
+fn run_change(
+    img: &mut [u8],
+    page: usize,
+    cache: Cache,
+    size: usize,
+    job: Change,
+    value: &[u8],
+    power: &mut usize,
+) -> Told
+    ensures { λ r. ⌜ CutOk page size (callOf job (now (value .entry))) (lentOf (now (img .entry)) cache)
+        (now (power .entry)) (now (power .exit)) (toldOf (now (img .exit)) r) ⌝ }
+{
+    match job {
+        Change::Store(key) => map::store_item_cut(img, page, cache, size, key, value, power),
+        Change::Remove(key) => map::remove_item_cut(img, page, cache, size, key, power),
+        Change::RemoveAll => map::remove_all_items_cut(img, page, cache, size, power),
+        Change::EraseAll => map::erase_all_cut(img, page, cache, size, power),
+    }
+}
+
+// A change at the border, with the cache, the power and the out that are lent.
+fn cut(
+    img: &mut [u8],
+    page: usize,
+    cache: &mut [u32],
+    size: usize,
+    job: Change,
+    value: &[u8],
+    power: &mut [usize],
+    out: &mut [u32],
+) -> u32
+    ensures { λ r. ⌜ CutBorder page size (callOf job (now (value .entry))) (now (img .entry)) (now (cache .entry)) (now (power .entry)) (now (out .entry))
+        (record { no = r; image = now (img .exit); cache = now (cache .exit); power = now (power .exit); out = now (out .exit) }) ⌝ }
+{
+    if cut_lengths(cache.len(), power.len(), out.len()) {
+        let held = cache_of(cache);
+        let mut left = power[0];
+        let told = run_change(img, page, held, size, job, value, &mut left);
+        power[0] = left;
+        return finish(cache, out, in_words(told));
+    }
+    255
+}
+
+// A store while the power lasts.
+#[no_mangle]
+pub extern "C" fn map_store_item_cut(
+    img: &mut [u8],
+    page: usize,
+    cache: &mut [u32],
+    size: usize,
+    key: u32,
+    value: &[u8],
+    power: &mut [usize],
+    out: &mut [u32],
+) -> u32
+    ensures { λ r. ⌜ CutBorder page size (storeItem key (now (value .entry))) (now (img .entry)) (now (cache .entry)) (now (power .entry)) (now (out .entry))
+        (record { no = r; image = now (img .exit); cache = now (cache .exit); power = now (power .exit); out = now (out .exit) }) ⌝ }
+{
+    let job = Change::Store(key);
+    cut(img, page, cache, size, job, value, power, out)
+}
+
+// A removal while the power lasts.
+#[no_mangle]
+pub extern "C" fn map_remove_item_cut(
+    img: &mut [u8],
+    page: usize,
+    cache: &mut [u32],
+    size: usize,
+    key: u32,
+    power: &mut [usize],
+    out: &mut [u32],
+) -> u32
+    ensures { λ r. ⌜ CutBorder page size (removeItem key) (now (img .entry)) (now (cache .entry)) (now (power .entry)) (now (out .entry))
+        (record { no = r; image = now (img .exit); cache = now (cache .exit); power = now (power .exit); out = now (out .exit) }) ⌝ }
+{
+    let job = Change::Remove(key);
+    cut(img, page, cache, size, job, b"", power, out)
+}
+
+// A removal of all keys while the power lasts.
+#[no_mangle]
+pub extern "C" fn map_remove_all_items_cut(
+    img: &mut [u8],
+    page: usize,
+    cache: &mut [u32],
+    size: usize,
+    power: &mut [usize],
+    out: &mut [u32],
+) -> u32
+    ensures { λ r. ⌜ CutBorder page size removeAllItems (now (img .entry)) (now (cache .entry)) (now (power .entry)) (now (out .entry))
+        (record { no = r; image = now (img .exit); cache = now (cache .exit); power = now (power .exit); out = now (out .exit) }) ⌝ }
+{
+    let job = Change::RemoveAll;
+    cut(img, page, cache, size, job, b"", power, out)
+}
+
+// All pages are erased while the power lasts.
+#[no_mangle]
+pub extern "C" fn map_erase_all_cut(
+    img: &mut [u8],
+    page: usize,
+    cache: &mut [u32],
+    size: usize,
+    power: &mut [usize],
+    out: &mut [u32],
+) -> u32
+    ensures { λ r. ⌜ CutBorder page size eraseAllPages (now (img .entry)) (now (cache .entry)) (now (power .entry)) (now (out .entry))
+        (record { no = r; image = now (img .exit); cache = now (cache .exit); power = now (power .exit); out = now (out .exit) }) ⌝ }
+{
+    let job = Change::EraseAll;
+    cut(img, page, cache, size, job, b"", power, out)
 }
 
 // A walk over all items in order of age: its start.
