@@ -4,14 +4,16 @@
  * `tools/native`, on any machine that has the Rattle kit. It calls memcpy, memmove and memset and nothing else, takes no
  * memory and keeps nothing between calls.
  *
- * A slice is a pointer and a length: bytes in image and value, words of 32 bits in cache, cursor and out. No pointer is
- * null, not even with length 0, and no two slices of a call overlap. Every call then ends and touches nothing else,
- * whatever numbers and bytes it is given.
+ * A slice is a pointer and a length: bytes in image and value, words of 32 bits in cache, cursor and out, a number of 64
+ * bits in power. No pointer is null, not even with length 0, and no two slices of a call overlap. Every call then ends and
+ * touches nothing else, whatever numbers and bytes it is given.
  *
  *   image    the flash image, image_len bytes in pages of `page` bytes; blank bytes are 0xFF
  *   cache    64 words, the 32 keys and then the 32 places; all 0 is empty. `size` of the 32 entries are in use, 0 to 32.
  *            Start with an empty one, and lend it, with the same size, to every call on the image that takes one
  *   cursor   3 words, where a walk stands: first page, page, place
+ *   power    1 number, how many units there are: a programmed byte takes one, an erased page one. At 0 the image changes no
+ *            more; UINT64_MAX never runs out
  *   out      5 words, written by every answer but 255; what does not apply is 0
  *
  * Each function returns an answer of enum werandumb_answer.
@@ -26,10 +28,11 @@
 extern "C" {
 #endif
 
-/* The lengths of a cache, a cursor and an out, in words, and the most entries that a cache has in use. */
+/* The lengths of a cache, a cursor, a power and an out, and the most entries that a cache has in use. */
 enum werandumb_length {
     WERANDUMB_CACHE = 64,
     WERANDUMB_CURSOR = 3,
+    WERANDUMB_POWER = 1,
     WERANDUMB_OUT = 5,
     WERANDUMB_ENTRIES = 32
 };
@@ -55,7 +58,7 @@ enum werandumb_answer {
     WERANDUMB_ITEM_TOO_BIG = 6,                   /* the value has over page - 20 bytes */
     WERANDUMB_FULL_STORAGE = 7,                   /* no room for the value; the values that are stored stay */
     WERANDUMB_CORRUPTED = 8,                      /* the image is damaged beyond one repair; the cache is empty */
-    WERANDUMB_WRONG_LENGTH = 255                  /* a cache, cursor or out of another length; nothing is written */
+    WERANDUMB_WRONG_LENGTH = 255                  /* a cache, cursor, power or out of another length; nothing is written */
 };
 
 /* The newest value of a key: kind 1 with its place and length, or kind 0. A damaged image is repaired once, so the image
@@ -83,6 +86,20 @@ uint32_t map_remove_all_items(uint8_t *image, size_t image_len, size_t page, uin
 /* Erases all pages, whatever they hold, and empties the cache. Answers 0 to 5, 255. */
 uint32_t map_erase_all(uint8_t *image, size_t image_len, size_t page, uint32_t *cache, size_t cache_len, size_t size,
                        uint32_t *out, size_t out_len);
+
+/* The four calls above on a battery that can run out, so that a test can pull it after any byte. power is written back with
+ * what is left. A refusal takes none. With enough units, exactly enough too, all is as the call without _cut leaves and
+ * answers it. With fewer the call is cut: 0 are left, and the image is what the first units of its steps leave, in their
+ * order; an erase is done or not begun. Then answer, out and cache mean nothing: go on with an empty cache. */
+uint32_t map_store_item_cut(uint8_t *image, size_t image_len, size_t page, uint32_t *cache, size_t cache_len, size_t size,
+                            uint32_t key, const uint8_t *value, size_t value_len, uint64_t *power, size_t power_len,
+                            uint32_t *out, size_t out_len);
+uint32_t map_remove_item_cut(uint8_t *image, size_t image_len, size_t page, uint32_t *cache, size_t cache_len, size_t size,
+                             uint32_t key, uint64_t *power, size_t power_len, uint32_t *out, size_t out_len);
+uint32_t map_remove_all_items_cut(uint8_t *image, size_t image_len, size_t page, uint32_t *cache, size_t cache_len,
+                                  size_t size, uint64_t *power, size_t power_len, uint32_t *out, size_t out_len);
+uint32_t map_erase_all_cut(uint8_t *image, size_t image_len, size_t page, uint32_t *cache, size_t cache_len, size_t size,
+                           uint64_t *power, size_t power_len, uint32_t *out, size_t out_len);
 
 /* Starts a walk over all items. Answer 0 writes the cursor, any other leaves it. A damaged image is repaired once.
  * Answers 0 to 5, 8, 255. */

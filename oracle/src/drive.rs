@@ -2,7 +2,7 @@
 //!
 //! The text takes the page size from the flash's type, so there is a type for each size in `PAGE_SIZES`. Each call builds
 //! the text's `MapStorage` from flash and cache and takes both back by its `destroy`.
-use oracle::{Flash, block_on};
+use oracle::{Flash, Step, block_on};
 use sequential_storage::{
     Error,
     cache::Cache,
@@ -39,6 +39,8 @@ pub trait Map {
     fn image(&self) -> &[u8];
     /// Pages erased since the last question.
     fn erased(&mut self) -> u32;
+    /// The flash's steps since the last question; none before the first one.
+    fn steps(&mut self) -> Vec<Step>;
     /// All 32 entries, key and place; 0 and 0 where one is empty or past the size.
     fn entries(&self) -> [(u32, u32); 32];
 }
@@ -101,6 +103,9 @@ impl<const E: usize> Map for Driver<E> {
     }
     fn erased(&mut self) -> u32 {
         std::mem::take(&mut self.parts.as_mut().unwrap().0.erased)
+    }
+    fn steps(&mut self) -> Vec<Step> {
+        self.parts.as_mut().unwrap().0.steps.replace(Vec::new()).unwrap_or_default()
     }
     fn entries(&self) -> [(u32, u32); 32] {
         // ArrayKeyPointers { key_pointers: [Some((1, 4)), None] }

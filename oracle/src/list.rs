@@ -1,4 +1,5 @@
 //! The list: which calls are made, and the lines that say what the text answered.
+use crate::draw::{Change, Dice, Lengths, Value, digest, head, keys};
 use crate::drive::{self, Map, PAGE_SIZES, Walked};
 use std::io::{Result, Write};
 
@@ -17,61 +18,6 @@ const HEADER: &str = "\
 # NO is the answer's number, ERASED the pages erased. IMAGE and CACHE are digests after the call, of the image's bytes and
 # of the 32 entries, key and place each: from 1, each number x makes of h (1000003 h + x) mod 4294967291.";
 
-/// An own small generator, so that a seed always gives the same list.
-struct Dice(u64);
-
-impl Dice {
-    fn below(&mut self, n: usize) -> usize {
-        self.0 ^= self.0 << 13;
-        self.0 ^= self.0 >> 7;
-        self.0 ^= self.0 << 17;
-        (self.0.wrapping_mul(0x2545_F491_4F6C_DD1D) >> 33) as usize % n
-    }
-    fn of<T: Copy>(&mut self, list: &[T]) -> T {
-        list[self.below(list.len())]
-    }
-}
-
-fn digest(numbers: impl Iterator<Item = u32>) -> u64 {
-    numbers.fold(1, |h, x| (h * 1_000_003 + u64::from(x)) % 4_294_967_291)
-}
-
-/// A value by rule: `len` bytes, the first of them `first`, each later one more by `step`.
-struct Value {
-    len: usize,
-    first: u8,
-    step: u8,
-}
-
-impl Value {
-    fn bytes(&self) -> Vec<u8> {
-        (0..self.len).map(|i| self.first.wrapping_add(self.step.wrapping_mul(i as u8))).collect()
-    }
-
-    /// The rule of these bytes, with 0 for what they don't show.
-    fn of(bytes: &[u8]) -> Self {
-        let first = bytes.first().copied().unwrap_or(0);
-        let step = bytes.get(1).map_or(0, |second| second.wrapping_sub(first));
-        let value = Self { len: bytes.len(), first, step };
-        assert!(value.bytes() == bytes, "a value that was never stored");
-        value
-    }
-
-    fn words(&self) -> String {
-        format!("{} {} {}", self.len, self.first, self.step)
-    }
-}
-
-/// How long the values of a run are: a few bytes, at a limit, about half a data area, over half of it, any.
-#[derive(Clone, Copy)]
-enum Lengths {
-    Short,
-    Border,
-    Half,
-    Page,
-    Any,
-}
-
 /// What is drawn in a run: calls by their letters, keys, lengths.
 struct Plan {
     calls: usize,
@@ -83,14 +29,6 @@ struct Plan {
 const FILLING: &[u8] = b"sssssssssssssssssssssssssssssssssssssssfffffffrw";
 const MIXED: &[u8] = b"ssssssssssssssssssssssssffffffffrrrwae";
 const REMOVING: &[u8] = b"ssssssssssssssssssssssssffffffffffffffrrrrrrrrrrrrwae";
-
-/// `k` different keys, the special ones first.
-fn keys(dice: &mut Dice, k: usize) -> Vec<u32> {
-    let mut special = [0, 1, u32::MAX, 2, 255, 256, 65_535, 0x0101_0101, 0x7FFF_FFFF, 0x8000_0000];
-    let turn = dice.below(special.len());
-    special.rotate_left(turn);
-    special.into_iter().chain(1000..).take(k).collect()
-}
 
 /// A plan for n pages of e bytes. Many keys with long values fill the ring, and values over half a page wrap a long ring
 /// soon. A large image has few calls, since each takes its digest.
@@ -116,7 +54,7 @@ pub struct List<W: Write> {
 
 impl<W: Write> List<W> {
     pub fn new(out: W, seed: u64) -> Self {
-        Self { out, seed, dice: Dice(seed << 1 | 1), calls: 0 }
+        Self { out, seed, dice: Dice::new(seed), calls: 0 }
     }
 
     /// A call's line: the call with its inputs, what every call has, and `more`.
@@ -127,13 +65,9 @@ impl<W: Write> List<W> {
         writeln!(self.out, "{call} {no} {} {image} {cache}{more}", map.erased())
     }
 
-    fn store(&mut self, map: &mut dyn Map, key: u32, len: usize) -> Result<()> {
-        let first = self.dice.below(256) as u8;
-        let step = self.dice.below(256) as u8;
-        let value = Value { len, first: self.dice.of(&[0, 255, first, first]), step: self.dice.of(&[0, 1, step]) };
-        let bytes = value.bytes();
-        let no = map.store(key, &bytes).err().unwrap_or(0);
-        self.line(map, &format!("s {key} {}", Value::of(&bytes).words()), no, "")
+    fn change(&mut self, map: &mut dyn Map, change: &Change) -> Result<()> {
+        let no = change.make(map);
+        self.line(map, &change.words(), no, "")
     }
 
     fn fetch(&mut self, map: &mut dyn Map, key: u32) -> Result<()> {
@@ -164,15 +98,7 @@ impl<W: Write> List<W> {
         if !blank && self.dice.below(40) == 0 {
             return self.dice.of(&[most + 1, most + 1, most + 4, most + 5, 65_531, 65_532, 70_000]);
         }
-        let under = |n: usize| most.saturating_sub(n);
-        let len = match lengths {
-            Lengths::Short => self.dice.below(6),
-            Lengths::Border => self.dice.of(&[0, 1, 3, 4, 5, under(5), under(4), under(3), under(1), most]),
-            Lengths::Half => ((e - 8) / 2 + self.dice.below(12)).saturating_sub(18),
-            Lengths::Page => most.div_ceil(2) + self.dice.below(most / 2 + 1),
-            Lengths::Any => self.dice.below(most + 1),
-        };
-        len.min(most)
+        lengths.draw(&mut self.dice, e)
     }
 
     /// One call of the plan.
@@ -184,22 +110,14 @@ impl<W: Write> List<W> {
             b's' => {
                 let blank = map.image().iter().all(|&b| b == 0xFF);
                 let len = self.length(e, plan.lengths, blank);
-                self.store(map, held, len)
+                let value = Value::draw(&mut self.dice, len);
+                self.change(map, &Change::Store(held, value))
             }
             b'f' => self.fetch(map, asked),
-            b'r' => {
-                let no = map.remove(asked).err().unwrap_or(0);
-                self.line(map, &format!("r {asked}"), no, "")
-            }
+            b'r' => self.change(map, &Change::Remove(asked)),
             b'w' => self.walk(map, 15),
-            b'a' => {
-                let no = map.remove_all().err().unwrap_or(0);
-                self.line(map, "a", no, "")
-            }
-            _ => {
-                let no = map.erase_all().err().unwrap_or(0);
-                self.line(map, "e", no, "")
-            }
+            b'a' => self.change(map, &Change::RemoveAll),
+            _ => self.change(map, &Change::EraseAll),
         }
     }
 
@@ -244,10 +162,7 @@ impl<W: Write> List<W> {
 
     /// Rounds until there are this many calls, at least one.
     pub fn write(mut self, calls: usize) -> Result<()> {
-        writeln!(self.out, "{HEADER}\n# Seed {}. The text: bytes and digest of each file.", self.seed)?;
-        for (name, text) in sequential_storage::FILES {
-            writeln!(self.out, "#   {name} {} {}", text.len(), digest(text.iter().map(|&b| u32::from(b))))?;
-        }
+        head(&mut self.out, HEADER, self.seed)?;
         self.round()?;
         while self.calls < calls {
             self.round()?;

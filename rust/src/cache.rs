@@ -26,6 +26,11 @@ impl Cache {
         Ok(Cache { words: [0; 64], size })
     }
 
+    /// Makes all entries empty.
+    pub(crate) fn empty(&mut self) {
+        self.words = [0; 64];
+    }
+
     /// How many entries it has.
     pub fn size(&self) -> usize {
         self.size

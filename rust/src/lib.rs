@@ -22,6 +22,9 @@
 //!     let totals: Vec<(u32, &[u8])> = map.fetch_all_items()?.collect(); // older values too; the last of a key counts
 //!     assert_eq!(totals.len(), 2);
 //!
+//!     assert_eq!(map.with_power(9).store_item(7, &[0; 4]), None);       // the battery is pulled after 9 bytes
+//!     assert_eq!(map.fetch_item(7)?, Some(&5150u32.to_le_bytes()[..])); // the total before is still there
+//!
 //!     map.remove_item(7)?;
 //!     assert_eq!(map.fetch_plain(7)?, None);                            // reads only: takes `&self`, repairs nothing
 //!     assert_eq!(map.store_item(7, &[0; 45]), Err(Error::ItemTooBig));  // at most the page size less 20 bytes
@@ -48,7 +51,9 @@ mod border;
 mod cache;
 mod error;
 mod map;
+mod power;
 
 pub use cache::Cache;
 pub use error::Error;
 pub use map::{Items, MapStorage};
+pub use power::Powered;

@@ -4,16 +4,16 @@ use std::fmt;
 use std::iter::FusedIterator;
 
 use crate::border::{self, Cursor, Found, Told};
-use crate::{Cache, Error};
+use crate::{Cache, Error, Powered};
 
 /// A map in an image of flash pages.
 ///
 /// The image is any bytes that can be lent: `&mut [u8]`, `Vec<u8>`, an array. Each byte of blank flash is `0xFF`.
 #[derive(Clone)]
 pub struct MapStorage<I> {
-    image: I,
-    page_size: usize,
-    cache: Cache,
+    pub(crate) image: I,
+    pub(crate) page_size: usize,
+    pub(crate) cache: Cache,
     erased: u64,
 }
 
@@ -89,6 +89,11 @@ impl<I: AsRef<[u8]> + AsMut<[u8]>> MapStorage<I> {
         Ok(Items { image, page_size: self.page_size, cursor })
     }
 
+    /// The same map on a battery with this much power, which a test can make run out in the middle of a call.
+    pub fn with_power(&mut self, units: u64) -> Powered<'_, I> {
+        Powered::new(self, units)
+    }
+
     /// The image.
     pub fn image(&self) -> &[u8] {
         self.image.as_ref()
@@ -115,7 +120,7 @@ impl<I: AsRef<[u8]> + AsMut<[u8]>> MapStorage<I> {
     }
 
     /// Counts the pages that a call erased, and hands on whether it is done.
-    fn done(&mut self, told: Told) -> Result<(), Error> {
+    pub(crate) fn done(&mut self, told: Told) -> Result<(), Error> {
         self.erased += u64::from(told.erased);
         told.answer.map(|_| ())
     }
