@@ -1,7 +1,8 @@
 -- What the code's jobs and answers stand for.
 use Prim.Native.Nat.{ℕ, _+_, _-_}
 use mathlib.Core.List.{List}
-use Rattle.rules.specs.declared.{Geo.Geo, Answer.Answer, Answer.the-variants.Value, Answer.the-variants.None, Answer.the-variants.Corrupted}
+use Rattle.rules.specs.declared.{Geo.Geo, Answer.Answer, Answer.the-variants.Value, Answer.the-variants.None}
+use Rattle.rules.specs.declared.{Answer.the-variants.Corrupted}
 use Rattle.rules.specs.Cache.{Cache}
 use Rattle.rules.specs.Runs.{St, Out}
 use Rattle.rules.specs.Fetch.{Found, missing, runFetch, servedBy}
@@ -13,7 +14,8 @@ use Rattle.fetch.specs.declared.{Mem.Mem}
 use Rattle.store.specs.declared.{Run.Run}
 use Rattle.store.specs.Code.{RunOk}
 use Rattle.remove.specs.Code.{whichOf}
-use Rattle.calls.specs.declared.{Job.Job, Job.the-variants.Fetch, Job.the-variants.Store, Job.the-variants.Remove, Job.the-variants.Start}
+use Rattle.calls.specs.declared.{Job.Job, Job.the-variants.Fetch, Job.the-variants.Store, Job.the-variants.Remove}
+use Rattle.calls.specs.declared.{Job.the-variants.Start}
 
 -- the answer that the place and data length of an item give
 abbrev pub toldAnswer : Spot → Answer

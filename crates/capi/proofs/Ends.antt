@@ -21,7 +21,8 @@ use Rattle.cache.specs.Code.{pointers}
 use Rattle.map.specs.declared.{Told.Told, Started.Started, Stepped.Stepped}
 use Rattle.map.specs.Code.{lentOf, toldOf, CutOk, startedOf, PlainOk, StepOk}
 use Rattle.capi.specs.declared.{Change.Change}
-use Rattle.capi.specs.Code.{Word, Fits, WordsOk, cutLengths, CutBorder, callOf, entriesOf, cacheWords, cursorOf, cursorAfter, outWords, border, plainBorder, startBorder, stepBorder}
+use Rattle.capi.specs.Code.{Word, Fits, WordsOk, cutLengths, CutBorder, callOf, entriesOf, cacheWords, cursorOf}
+use Rattle.capi.specs.Code.{cursorAfter, outWords, border, plainBorder, startBorder, stepBorder}
 use Rattle.capi.proofs.Small.{told-fits}
 
 -- ---- a call with a cache
@@ -31,13 +32,15 @@ module _ (E m : ℕ) (call : Call) (img ws ow : List ℕ) where
   unfolding border
   no-cache h = rw (ne-eqb (length ws) 64 h)
 
-  pub no-out : length ws ≡ 64 → length ow ≢ 5 → record { no = 255; image = img; cache = ws; out = ow } ≡ border E m call img ws ow
+  pub no-out : length ws ≡ 64 → length ow ≢ 5
+      → record { no = 255; image = img; cache = ws; out = ow } ≡ border E m call img ws ow
   unfolding border
   no-out g h = rw (eq-eqb (length ws) 64 g, ne-eqb (length ow) 5 h)
 
   pub told : length ws ≡ 64 → length ow ≡ 5 → (held : Cache) → pointers 32 held ≡ entriesOf ws
       → (i : List ℕ) (r : Told) → toldOf i r ≡ called 4 E m call (lentOf img held)
-      → (n : ℕ) (c o : List ℕ) → (n ≡ number (r .answer)) × (c ≡ cacheWords (pointers 32 (r .cache))) × (o ≡ outWords (r .erased) (r .answer))
+      → (n : ℕ) (c o : List ℕ)
+      → (n ≡ number (r .answer)) × (c ≡ cacheWords (pointers 32 (r .cache))) × (o ≡ outWords (r .erased) (r .answer))
       → record { no = n; image = i; cache = c; out = o } ≡ border E m call img ws ow
   unfolding border
   told g h held p i r t n c o f = rw (eq-eqb (length ws) 64 g, eq-eqb (length ow) 5 h, ← p, ← t, f .0, f .1, f .2)
@@ -49,7 +52,8 @@ pub words-yes : (t : Told) (s : Shown) → s ≡ shownOf (t .answer) → Word (t
     → WordsOk t (record { answer = t .answer; cache = t .cache; erased = t .erased })
 words-yes t s e f g h = record { cache = refl; fits = (f, rw e at g, rw e at h); same = λ k. refl }
 
-pub words-no : (t : Told) (s : Shown) → s ≡ shownOf (t .answer) → (Word (t .erased) × Word (s .place) × Word (s .len) → ⊥)
+pub words-no : (t : Told) (s : Shown) → s ≡ shownOf (t .answer)
+    → (Word (t .erased) × Word (s .place) × Word (s .len) → ⊥)
     → WordsOk t (record { answer = Corrupted; cache = t .cache; erased = 0 })
 words-no t s e n =
     let no : Fits (t .erased) (t .answer) → ⊥ = rw e at n in
@@ -94,20 +98,25 @@ module _ (E m : ℕ) (call : Call) (img ws pw ow : List ℕ) where
     whole = λ k l. absurd (not-both (sym h ∙ k));
   }
 
-  pub cut-told : cutLengths (length ws) (length pw) (length ow) ≡ true → (held : Cache) → pointers 32 held ≡ entriesOf ws
-      → (i : List ℕ) (p′ : ℕ) (t : Told) → CutOk E m call (lentOf img held) (getD pw 0 0) p′ (toldOf i t) → (r : Told) → WordsOk t r
-      → (n : ℕ) (c o : List ℕ) → (n ≡ number (r .answer)) × (c ≡ cacheWords (pointers 32 (r .cache))) × (o ≡ outWords (r .erased) (r .answer))
+  pub cut-told : cutLengths (length ws) (length pw) (length ow) ≡ true → (held : Cache)
+      → pointers 32 held ≡ entriesOf ws
+      → (i : List ℕ) (p′ : ℕ) (t : Told) → CutOk E m call (lentOf img held) (getD pw 0 0) p′ (toldOf i t) → (r : Told)
+      → WordsOk t r
+      → (n : ℕ) (c o : List ℕ)
+      → (n ≡ number (r .answer)) × (c ≡ cacheWords (pointers 32 (r .cache))) × (o ≡ outWords (r .erased) (r .answer))
       → CutBorder E m call img ws pw ow (record { no = n; image = i; cache = c; power = set pw 0 p′; out = o })
   cut-told h held e i p′ t C r W n c o f =
       let L = lengths (length ws) (length pw) (length ow) h in
       let at : Lent → List FlashStep = λ l. stepsOf 4 E m call l in
-      let l : lentOf img held ≡ record { image = img; cache = entriesOf ws } = ap (λ (x : Entries). record { image = img; cache = x }) e in
+      let l : lentOf img held ≡ record { image = img; cache = entriesOf ws } =
+      ap (λ (x : Entries). record { image = img; cache = x }) e in
       record {
         wrong = λ k. absurd (not-both (sym k ∙ h));
         image = λ k. C .image ∙ ap (λ (x : Lent). cutImage E img (getD pw 0 0) (at x)) l;
-        left = λ k. one-set pw p′ (L .power) ∙ ap (λ (x : ℕ). x ∷ []) (C .left ∙ ap (λ (x : Lent). spend (getD pw 0 0) (units (at x))) l);
-        whole = λ k q.
-            let same : toldOf i t ≡ called 4 E m call (lentOf img held) = C .whole (ap (λ (x : Lent). lasts (getD pw 0 0) (units (at x))) l ∙ q) in
+        left = λ k. one-set pw p′ (L .power)
+            ∙ ap (λ (x : ℕ). x ∷ []) (C .left ∙ ap (λ (x : Lent). spend (getD pw 0 0) (units (at x))) l);
+        whole = λ k q. let same : toldOf i t ≡ called 4 E m call (lentOf img held) =
+            C .whole (ap (λ (x : Lent). lasts (getD pw 0 0) (units (at x))) l ∙ q) in
             let z : r ≡ t = W .same (told-fits E m call (lentOf img held) (toldOf i t) same) in
             told E m call img ws ow (L .cache) (L .out) held e i r (ap (toldOf i) z ∙ same) n c o f;
       }
@@ -119,7 +128,8 @@ module _ (E k : ℕ) (img ow : List ℕ) where
   unfolding plainBorder
   plain-wrong h = rw (ne-eqb (length ow) 5 h)
 
-  pub plain-told : length ow ≡ 5 → (a : Answer) → PlainOk E k img a → (n : ℕ) (o : List ℕ) → n ≡ number a → o ≡ outWords 0 a
+  pub plain-told : length ow ≡ 5 → (a : Answer) → PlainOk E k img a → (n : ℕ) (o : List ℕ) → n ≡ number a
+      → o ≡ outWords 0 a
       → record { no = n; out = o } ≡ plainBorder E k img ow
   unfolding plainBorder
   plain-told h a p n o e f = rw (eq-eqb (length ow) 5 h, ← p .is 0 [], e, f)
@@ -127,22 +137,26 @@ module _ (E k : ℕ) (img ow : List ℕ) where
 -- ---- a walk's start
 
 module _ (E m : ℕ) (img ws cw ow : List ℕ) where
-  pub start-no-cache : length ws ≢ 64 → record { no = 255; image = img; cache = ws; cursor = cw; out = ow } ≡ startBorder E m img ws cw ow
+  pub start-no-cache : length ws ≢ 64
+      → record { no = 255; image = img; cache = ws; cursor = cw; out = ow } ≡ startBorder E m img ws cw ow
   unfolding startBorder
   start-no-cache h = rw (ne-eqb (length ws) 64 h)
 
-  pub start-no-cursor : length ws ≡ 64 → length cw ≢ 3 → record { no = 255; image = img; cache = ws; cursor = cw; out = ow } ≡ startBorder E m img ws cw ow
+  pub start-no-cursor : length ws ≡ 64 → length cw ≢ 3
+      → record { no = 255; image = img; cache = ws; cursor = cw; out = ow } ≡ startBorder E m img ws cw ow
   unfolding startBorder
   start-no-cursor g h = rw (eq-eqb (length ws) 64 g, ne-eqb (length cw) 3 h)
 
-  pub start-no-out : length ws ≡ 64 → length cw ≡ 3 → length ow ≢ 5 → record { no = 255; image = img; cache = ws; cursor = cw; out = ow } ≡ startBorder E m img ws cw ow
+  pub start-no-out : length ws ≡ 64 → length cw ≡ 3 → length ow ≢ 5
+      → record { no = 255; image = img; cache = ws; cursor = cw; out = ow } ≡ startBorder E m img ws cw ow
   unfolding startBorder
   start-no-out g f h = rw (eq-eqb (length ws) 64 g, eq-eqb (length cw) 3 f, ne-eqb (length ow) 5 h)
 
   pub start-told : length ws ≡ 64 → length cw ≡ 3 → length ow ≡ 5 → (held : Cache) → pointers 32 held ≡ entriesOf ws
       → (i : List ℕ) (r : Started) → startedOf i r ≡ called 4 E m fetchAllItems (lentOf img held)
       → (w : List ℕ) → w ≡ cursorAfter cw (r .answer) (r .cursor)
-      → (n : ℕ) (c o : List ℕ) → (n ≡ number (r .answer)) × (c ≡ cacheWords (pointers 32 (r .cache))) × (o ≡ outWords (r .erased) (r .answer))
+      → (n : ℕ) (c o : List ℕ)
+      → (n ≡ number (r .answer)) × (c ≡ cacheWords (pointers 32 (r .cache))) × (o ≡ outWords (r .erased) (r .answer))
       → record { no = n; image = i; cache = c; cursor = w; out = o } ≡ startBorder E m img ws cw ow
   unfolding startBorder
   start-told g h j held p i r t w q n c o f =
@@ -160,7 +174,8 @@ module _ (E : ℕ) (img cw ow : List ℕ) where
   step-no-out g h = rw (eq-eqb (length cw) 3 g, ne-eqb (length ow) 5 h)
 
   pub step-told : length cw ≡ 3 → length ow ≡ 5 → (at : Cursor) → at ≡ cursorOf cw → (r : Stepped) → StepOk E at img r
-      → (w : List ℕ) → w ≡ cursorAfter cw (r .answer) (r .cursor) → (n : ℕ) (o : List ℕ) → n ≡ number (r .answer) → o ≡ outWords 0 (r .answer)
+      → (w : List ℕ) → w ≡ cursorAfter cw (r .answer) (r .cursor) → (n : ℕ) (o : List ℕ) → n ≡ number (r .answer)
+      → o ≡ outWords 0 (r .answer)
       → record { no = n; cursor = w; out = o } ≡ stepBorder E img cw ow
   unfolding stepBorder
   step-told g h at p r s w q n o e f = rw (eq-eqb (length cw) 3 g, eq-eqb (length ow) 5 h, ← p, ← s .is 0 [], q, e, f)

@@ -11,13 +11,15 @@ use Rattle.rules.specs.Bytes.{pick, both, FlashStep}
 use Rattle.rules.specs.Power.{lasts, spend, units, cutImage}
 use Rattle.rules.specs.Cache.{Pointer, Cache as Entries}
 use Rattle.rules.specs.Answers.{number, isNo}
-use Rattle.rules.specs.Calls.{Told as Handed, Call, noCursor, called, fetchItem, fetchPlain, storeItem, removeItem, removeAllItems, eraseAllPages, fetchAllItems, nextItem, stepsOf}
+use Rattle.rules.specs.Calls.{Told as Handed, Call, noCursor, called, fetchItem, fetchPlain, storeItem, removeItem}
+use Rattle.rules.specs.Calls.{removeAllItems, eraseAllPages, fetchAllItems, nextItem, stepsOf}
 use Rattle.answer.specs.declared.{Shown.Shown}
 use Rattle.answer.specs.Code.{shownOf}
 use Rattle.cache.specs.declared.{Cache.Cache}
 use Rattle.cache.specs.Code.{entries}
 use Rattle.map.specs.declared.{Told.Told}
-use Rattle.capi.specs.declared.{Change.Change, Change.the-variants.Store, Change.the-variants.Remove, Change.the-variants.RemoveAll, Change.the-variants.EraseAll}
+use Rattle.capi.specs.declared.{Change.Change, Change.the-variants.Store, Change.the-variants.Remove}
+use Rattle.capi.specs.declared.{Change.the-variants.RemoveAll, Change.the-variants.EraseAll}
 
 -- a number that fits a word
 abbrev pub Word : ℕ → Type 0
@@ -101,7 +103,13 @@ pub record StepLeft : Type 0 where
 
 -- what a call told, in words
 abbrev pub handed : Handed → Left
-handed t = record { no = number (t .answer); image = t .image; cache = cacheWords (t .cache); out = outWords (t .erased) (t .answer) }
+handed t =
+    record {
+      no = number (t .answer);
+      image = t .image;
+      cache = cacheWords (t .cache);
+      out = outWords (t .erased) (t .answer);
+    }
 
 abbrev pub plainHanded : Handed → PlainLeft
 plainHanded t = record { no = number (t .answer); out = outWords (t .erased) (t .answer) }
@@ -111,10 +119,22 @@ abbrev pub cursorAfter : List ℕ → Answer → Cursor → List ℕ
 cursorAfter ws a c = pick (isNo 0 a) (cursorWords c) ws
 
 abbrev pub startHanded : List ℕ → Handed → StartLeft
-startHanded ws t = record { no = number (t .answer); image = t .image; cache = cacheWords (t .cache); cursor = cursorAfter ws (t .answer) (t .cursor); out = outWords (t .erased) (t .answer) }
+startHanded ws t =
+    record {
+      no = number (t .answer);
+      image = t .image;
+      cache = cacheWords (t .cache);
+      cursor = cursorAfter ws (t .answer) (t .cursor);
+      out = outWords (t .erased) (t .answer);
+    }
 
 abbrev pub stepHanded : List ℕ → Handed → StepLeft
-stepHanded ws t = record { no = number (t .answer); cursor = cursorAfter ws (t .answer) (t .cursor); out = outWords (t .erased) (t .answer) }
+stepHanded ws t =
+    record {
+      no = number (t .answer);
+      cursor = cursorAfter ws (t .answer) (t .cursor);
+      out = outWords (t .erased) (t .answer);
+    }
 
 -- a call on pages of E bytes and a cache of m entries; 255 where a length is wrong, and nothing changes
 unfoldable pub border : ℕ → ℕ → Call → List ℕ → List ℕ → List ℕ → Left
@@ -144,10 +164,14 @@ stepsAt E m call i c = stepsOf 4 E m call (record { image = i; cache = entriesOf
 -- 255 where a length is wrong, and nothing changes; else the image is what the call's flash steps leave with the power, so much of it is left,
 -- and where it lasts for all of them the call is as it is without it
 pub record CutBorder (E m : ℕ) (call : Call) (i c p o : List ℕ) (l : CutLeft) : Type 0 where
-  pub wrong : cutLengths (length c) (length p) (length o) ≡ false → l ≡ record { no = 255; image = i; cache = c; power = p; out = o }
-  pub image : cutLengths (length c) (length p) (length o) ≡ true → l .image ≡ cutImage E i (getD p 0 0) (stepsAt E m call i c)
-  pub left : cutLengths (length c) (length p) (length o) ≡ true → l .power ≡ spend (getD p 0 0) (units (stepsAt E m call i c)) ∷ []
-  pub whole : cutLengths (length c) (length p) (length o) ≡ true → lasts (getD p 0 0) (units (stepsAt E m call i c)) ≡ true
+  pub wrong : cutLengths (length c) (length p) (length o) ≡ false
+      → l ≡ record { no = 255; image = i; cache = c; power = p; out = o }
+  pub image : cutLengths (length c) (length p) (length o) ≡ true
+      → l .image ≡ cutImage E i (getD p 0 0) (stepsAt E m call i c)
+  pub left : cutLengths (length c) (length p) (length o) ≡ true
+      → l .power ≡ spend (getD p 0 0) (units (stepsAt E m call i c)) ∷ []
+  pub whole : cutLengths (length c) (length p) (length o) ≡ true
+      → lasts (getD p 0 0) (units (stepsAt E m call i c)) ≡ true
       → record { no = l .no; image = l .image; cache = l .cache; out = l .out } ≡ border E m call i c o
 
 -- a plain fetch, which takes no cache
@@ -188,4 +212,5 @@ pub record WordsOk (told r : Told) : Type 0 where
 -- an answer other than Corrupted is that of a fetch of key k, which changes nothing
 pub record StillOk (E m k : ℕ) (img ws : List ℕ) (a : Answer) : Type 0 where
   pub is : number a ≢ 8
-      → record { answer = a; cursor = noCursor; image = img; cache = entriesOf ws; erased = 0 } ≡ called 4 E m (fetchItem k) (record { image = img; cache = entriesOf ws })
+      → record { answer = a; cursor = noCursor; image = img; cache = entriesOf ws; erased = 0 }
+      ≡ called 4 E m (fetchItem k) (record { image = img; cache = entriesOf ws })

@@ -85,7 +85,8 @@ lasts-add p m n = go (leb endless p) refl
     short false e b f = lt-leb (m + n) p (omega (arith, leb-false m p e))
 
     go : (b : Bool) → leb endless p ≡ b
-        → pick b true (leb (m + n) p) ≡ both (pick b true (leb m p)) (pick (leb endless (spend p m)) true (leb n (spend p m)))
+        → pick b true (leb (m + n) p)
+        ≡ both (pick b true (leb m p)) (pick (leb endless (spend p m)) true (leb n (spend p m)))
     go true e = let h = leb-true endless p e in rw (spend-endless p m h, e)
     go false e =
         let h = leb-false endless p e in
@@ -115,21 +116,26 @@ taken-short p bs = go (leb endless p)
 taken-first : (bs cs : List ℕ) → length bs < endless → taken (length bs) (bs ++ cs) ≡ bs
 unfolding taken
 taken-first bs cs h =
-    rw (lt-leb endless (length bs) h) (take-append-le (length bs) bs cs (omega arith) ∙ take-all (length bs) bs (omega arith))
+    rw (lt-leb endless (length bs) h)
+    (take-append-le (length bs) bs cs (omega arith) ∙ take-all (length bs) bs (omega arith))
 
 -- ---- bytes in pieces
 
 take-append : (p : ℕ) (xs ys : List ℕ) → take p (xs ++ ys) ≡ take p xs ++ take (p - length xs) ys
 take-append p [] ys = let z : p - 0 ≡ p = omega arith in rw (z, take-nil {A = ℕ} p)
 take-append zero (x ∷ xs) ys = let z : 0 - suc (length xs) ≡ 0 = omega arith in rw z
-take-append (suc p) (x ∷ xs) ys = let z : suc p - suc (length xs) ≡ p - length xs = omega arith in rw (z, take-append p xs ys)
+take-append (suc p) (x ∷ xs) ys =
+    let z : suc p - suc (length xs) ≡ p - length xs = omega arith in
+    rw (z, take-append p xs ys)
 
 pub program-taken : (l : List ℕ) (a p : ℕ) (xs ys : List ℕ) → a + (length xs + length ys) ≤ length l
-    → program l a (taken p (xs ++ ys)) ≡ program (program l a (taken p xs)) (a + length xs) (taken (spend p (length xs)) ys)
+    → program l a (taken p (xs ++ ys))
+    ≡ program (program l a (taken p xs)) (a + length xs) (taken (spend p (length xs)) ys)
 unfolding taken spend
 program-taken l a p xs ys h = go (leb endless p) refl
   where
-    short : (b : Bool) → leb (length xs) p ≡ b → program l a (take p (xs ++ ys)) ≡ program (program l a (take p xs)) (a + length xs) (take (p - length xs) ys)
+    short : (b : Bool) → leb (length xs) p ≡ b
+        → program l a (take p (xs ++ ys)) ≡ program (program l a (take p xs)) (a + length xs) (take (p - length xs) ys)
     short true e =
         let g = leb-true (length xs) p e in
         let lt = length-take (p - length xs) ys in
@@ -139,10 +145,14 @@ program-taken l a p xs ys h = go (leb endless p) refl
         let z : p - length xs ≡ 0 = omega arith in
         rw (take-append p xs ys, z, append-nil (take p xs), program-nil (program l a (take p xs)) (a + length xs))
 
-    go : (b : Bool) → leb endless p ≡ b → program l a (pick b (xs ++ ys) (take p (xs ++ ys)))
-        ≡ program (program l a (pick b xs (take p xs))) (a + length xs) (pick (leb endless (pick b p (p - length xs))) ys (take (pick b p (p - length xs)) ys))
+    go : (b : Bool) → leb endless p ≡ b
+        → program l a (pick b (xs ++ ys) (take p (xs ++ ys)))
+        ≡ program (program l a (pick b xs (take p xs))) (a + length xs)
+        (pick (leb endless (pick b p (p - length xs))) ys (take (pick b p (p - length xs)) ys))
     go true e = rw e (program-append l a xs ys h)
-    go false e = let f = leb-false endless p e in rw (lt-leb endless (p - length xs) (omega arith)) (short (leb (length xs) p) refl)
+    go false e =
+        let f = leb-false endless p e in
+        rw (lt-leb endless (p - length xs) (omega arith)) (short (leb (length xs) p) refl)
 
 -- bytes programmed at a place with power p, and what is left of it
 pub record Wrote (l : List ℕ) (p : ℕ) (l′ : List ℕ) (p′ at : ℕ) (bs : List ℕ) : Type 0 where
@@ -152,7 +162,8 @@ pub record Wrote (l : List ℕ) (p : ℕ) (l′ : List ℕ) (p′ at : ℕ) (bs 
 pub wrote-as : {l l′ : List ℕ} {p p′ at : ℕ} {xs ys : List ℕ} → xs ≡ ys → Wrote l p l′ p′ at xs → Wrote l p l′ p′ at ys
 wrote-as {l} {l′} {p} {p′} {at} e w = subst (λ (z : List ℕ). Wrote l p l′ p′ at z) e w
 
-pub wrote-append : (l l₁ l₂ : List ℕ) (p p₁ p₂ a b : ℕ) (xs ys : List ℕ) → Wrote l p l₁ p₁ a xs → Wrote l₁ p₁ l₂ p₂ b ys → b ≡ a + length xs
+pub wrote-append : (l l₁ l₂ : List ℕ) (p p₁ p₂ a b : ℕ) (xs ys : List ℕ) → Wrote l p l₁ p₁ a xs → Wrote l₁ p₁ l₂ p₂ b ys
+    → b ≡ a + length xs
     → a + (length xs + length ys) ≤ length l → Wrote l p l₂ p₂ a (xs ++ ys)
 wrote-append l l₁ l₂ p p₁ p₂ a b xs ys f g e h = record {
   is = g .is ∙ rw (f .is, f .left, e) (sym (program-taken l a p xs ys h));
@@ -168,7 +179,8 @@ wrote-none l p at = record { is = go (leb endless p); left = sym (spend-zero p) 
     go false = rw (take-nil {A = ℕ} p) (sym (program-nil l at))
 
 -- the first i bytes of P are written, then those up to byte r
-pub wrote-more : (l₀ l l′ P : List ℕ) (p₀ p p′ a i r : ℕ) → Wrote l₀ p₀ l p a (take i P) → Wrote l p l′ p′ (a + i) (take (r - i) (drop i P)) → i ≤ r → r ≤ length P → a + length P ≤ length l₀
+pub wrote-more : (l₀ l l′ P : List ℕ) (p₀ p p′ a i r : ℕ) → Wrote l₀ p₀ l p a (take i P)
+    → Wrote l p l′ p′ (a + i) (take (r - i) (drop i P)) → i ≤ r → r ≤ length P → a + length P ≤ length l₀
     → Wrote l₀ p₀ l′ p′ a (take r P)
 wrote-more l₀ l l′ P p₀ p p′ a i r f g h k m =
     let n : ℕ = r - i in
@@ -176,13 +188,15 @@ wrote-more l₀ l l′ P p₀ p p′ a i r f g h k m =
     let li = length-take-le i P (omega arith) in
     let ld = length-drop i P in
     let ln = length-take-le n (drop i P) (omega arith) in
-    rw (← q, take-add i n P) (wrote-append l₀ l l′ p₀ p p′ a (a + i) (take i P) (take n (drop i P)) f g (omega arith) (omega arith))
+    rw (← q, take-add i n P)
+    (wrote-append l₀ l l′ p₀ p p′ a (a + i) (take i P) (take n (drop i P)) f g (omega arith) (omega arith))
 
 pub wrote-all : (l l′ P : List ℕ) (p p′ a i : ℕ) → Wrote l p l′ p′ a (take i P) → length P ≤ i → Wrote l p l′ p′ a P
 wrote-all l l′ P p p′ a i f h = rw (take-all i P h) at f
 
 -- a window that nothing is written in
-pub wrote-window : (l l′ bs : List ℕ) (p p′ at : ℕ) → Wrote l p l′ p′ at bs → at + length bs ≤ length l → (a m : ℕ) → (a + m ≤ at) ⊎ (at + length bs ≤ a)
+pub wrote-window : (l l′ bs : List ℕ) (p p′ at : ℕ) → Wrote l p l′ p′ at bs → at + length bs ≤ length l → (a m : ℕ)
+    → (a + m ≤ at) ⊎ (at + length bs ≤ a)
     → take m (drop a l′) ≡ take m (drop a l)
 wrote-window l l′ bs p p′ at w h a m d =
     let t = taken-short p bs in
@@ -230,19 +244,23 @@ module _ (E : ℕ) where
       → cutImage E img p (x ∷ xs) ≡ applyWith E img p x
   cut-first x xs img p h = ap (λ (q : ℕ). cutImage E (applyWith E img p x) q xs) h ∙ cut-none xs (applyWith E img p x)
 
-  pub cut-dead : (xs ys : List FlashStep) (img : List ℕ) (p : ℕ) → spend p (units xs) ≡ 0 → cutImage E img p (xs ++ ys) ≡ cutImage E img p xs
+  pub cut-dead : (xs ys : List FlashStep) (img : List ℕ) (p : ℕ) → spend p (units xs) ≡ 0
+      → cutImage E img p (xs ++ ys) ≡ cutImage E img p xs
   cut-dead xs ys img p h =
-      cut-append xs ys img p ∙ ap (λ (q : ℕ). cutImage E (cutImage E img p xs) q ys) h ∙ cut-none ys (cutImage E img p xs)
+      cut-append xs ys img p ∙ ap (λ (q : ℕ). cutImage E (cutImage E img p xs) q ys) h
+      ∙ cut-none ys (cutImage E img p xs)
 
   -- where it lasts, a step and steps are as without a cut
   apply-whole : (img : List ℕ) (p : ℕ) (x : FlashStep) → lasts p (cost x) ≡ true → applyWith E img p x ≡ apply E img x
   apply-whole img p (programs at bs) h = ap (program img at) (taken-all p bs h)
   apply-whole img p (erases q) h = rw h
 
-  pub cut-whole : (xs : List FlashStep) (img : List ℕ) (p : ℕ) → lasts p (units xs) ≡ true → cutImage E img p xs ≡ replay E img xs
+  pub cut-whole : (xs : List FlashStep) (img : List ℕ) (p : ℕ) → lasts p (units xs) ≡ true
+      → cutImage E img p xs ≡ replay E img xs
   cut-whole [] img p h = refl
   cut-whole (x ∷ xs) img p h =
-      go (lasts p (cost x)) refl (sym (lasts-add p (cost x) (units xs)) ∙ h) (cut-whole xs (applyWith E img p x) (spend p (cost x)))
+      go (lasts p (cost x)) refl (sym (lasts-add p (cost x) (units xs)) ∙ h)
+      (cut-whole xs (applyWith E img p x) (spend p (cost x)))
     where
       go : (b : Bool) → lasts p (cost x) ≡ b → both b (lasts (spend p (cost x)) (units xs)) ≡ true
           → (lasts (spend p (cost x)) (units xs) ≡ true → cutImage E img p (x ∷ xs) ≡ replay E (applyWith E img p x) xs)
@@ -251,7 +269,8 @@ module _ (E : ℕ) where
       go false e k ih = let z : _≡_ {A = ℕ} 0 1 = cc in absurd (omega arith)
 
   -- with power for some of the steps, and for some bytes of the next one too
-  pub cut-between : (xs ys : List FlashStep) (img : List ℕ) → units xs < endless → cutImage E img (units xs) (xs ++ ys) ≡ replay E img xs
+  pub cut-between : (xs ys : List FlashStep) (img : List ℕ) → units xs < endless
+      → cutImage E img (units xs) (xs ++ ys) ≡ replay E img xs
   cut-between xs ys img h =
       cut-dead xs ys img (units xs) (spend-less (units xs) (units xs) h ∙ omega arith)
       ∙ cut-whole xs img (units xs) (lasts-le (units xs) (units xs) (omega arith))
@@ -262,10 +281,11 @@ module _ (E : ℕ) where
       let p : ℕ = units xs + length bs in
       let rest : List FlashStep = programs at (bs ++ cs) ∷ ys in
       let e : spend p (units xs) ≡ length bs = spend-less p (units xs) h ∙ omega arith in
-      let out : spend (length bs) (length (bs ++ cs)) ≡ 0 =
-      spend-less (length bs) (length (bs ++ cs)) (omega arith) ∙ omega (arith, length-append bs cs) in
+      let out : spend (length bs) (length (bs ++ cs)) ≡ 0 = spend-less (length bs) (length (bs ++ cs)) (omega arith)
+      ∙ omega (arith, length-append bs cs) in
       cut-append xs rest img p
-      ∙ ap (λ (l : List ℕ). cutImage E l (spend p (units xs)) rest) (cut-whole xs img p (lasts-le p (units xs) (omega arith)))
+      ∙ ap (λ (l : List ℕ). cutImage E l (spend p (units xs)) rest)
+      (cut-whole xs img p (lasts-le p (units xs) (omega arith)))
       ∙ ap (λ (q : ℕ). cutImage E (replay E img xs) q rest) e
       ∙ cut-first (programs at (bs ++ cs)) ys (replay E img xs) (length bs) out
       ∙ ap (program (replay E img xs) at) (taken-first bs cs (omega arith))

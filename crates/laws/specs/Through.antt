@@ -14,19 +14,24 @@ use Rattle.rules.specs.Answers.{isNo}
 use Rattle.rules.specs.Runs.{St, Out, out, end, final, after, on, programming, erasing}
 use Rattle.rules.specs.Power.{endless, lasts, spend, cost, units, cutImage}
 use Rattle.laws.specs.Lists.{both-false}
-use Rattle.laws.specs.Power.{Wrote, Blanked, lasts-le, spend-none, spend-zero, spend-dead, lasts-add, lasts-endless, taken-all, left-append, lasts-append, lasts-dead, cut-append, cut-none, cut-first, cut-dead}
+use Rattle.laws.specs.Power.{Wrote, Blanked, lasts-le, spend-none, spend-zero, spend-dead, lasts-add}
+use Rattle.laws.specs.Power.{lasts-endless, taken-all, left-append, lasts-append, lasts-dead, cut-append}
+use Rattle.laws.specs.Power.{cut-none, cut-first, cut-dead}
 
 module _ (G : Geo) where
   pub data Through (o : Out) (img : List ℕ) (p : ℕ) (img′ : List ℕ) (p′ : ℕ) (rest : Out) : Type 0 where
-    going : (xs : List FlashStep) → lasts p (units xs) ≡ true → img′ ≡ cutImage (G .page) img p xs → p′ ≡ spend p (units xs) → o ≡ after xs rest → Through o img p img′ p′ rest
-    gone : lasts p (units (o .steps)) ≡ false → img′ ≡ cutImage (G .page) img p (o .steps) → p′ ≡ 0 → Through o img p img′ p′ rest
+    going : (xs : List FlashStep) → lasts p (units xs) ≡ true → img′ ≡ cutImage (G .page) img p xs
+        → p′ ≡ spend p (units xs) → o ≡ after xs rest → Through o img p img′ p′ rest
+    gone : lasts p (units (o .steps)) ≡ false → img′ ≡ cutImage (G .page) img p (o .steps) → p′ ≡ 0
+        → Through o img p img′ p′ rest
 
   -- nothing is run yet
   pub thr-refl : (o : Out) (img : List ℕ) (p : ℕ) → Through o img p img p o
   thr-refl o img p = going [] (lasts-le p 0 (omega arith)) refl (sym (spend-zero p)) refl
 
   -- without power nothing changes, whatever is run
-  thr-none : {o rest : Out} {img img′ : List ℕ} {p p′ : ℕ} → p ≡ 0 → Through o img p img′ p′ rest → (img′ ≡ img) × (p′ ≡ 0)
+  thr-none : {o rest : Out} {img img′ : List ℕ} {p p′ : ℕ} → p ≡ 0 → Through o img p img′ p′ rest
+      → (img′ ≡ img) × (p′ ≡ 0)
   thr-none {img = img} z (going xs h i l e) = (i ∙ rw z (cut-none (G .page) xs img), l ∙ rw z (spend-none (units xs)))
   thr-none {o = o} {img = img} z (gone h i l) = (i ∙ rw z (cut-none (G .page) (o .steps) img), l)
 
@@ -49,10 +54,12 @@ module _ (G : Geo) where
       m
 
   -- runs that are the same, and what is left to run that is the same
-  pub thr-from : {o o′ rest : Out} {img img′ : List ℕ} {p p′ : ℕ} → o ≡ o′ → Through o′ img p img′ p′ rest → Through o img p img′ p′ rest
+  pub thr-from : {o o′ rest : Out} {img img′ : List ℕ} {p p′ : ℕ} → o ≡ o′ → Through o′ img p img′ p′ rest
+      → Through o img p img′ p′ rest
   thr-from {rest = rest} {img} {img′} {p} {p′} e t = subst (λ (x : Out). Through x img p img′ p′ rest) (sym e) t
 
-  pub thr-to : {o rest rest′ : Out} {img img′ : List ℕ} {p p′ : ℕ} → Through o img p img′ p′ rest → rest ≡ rest′ → Through o img p img′ p′ rest′
+  pub thr-to : {o rest rest′ : Out} {img img′ : List ℕ} {p p′ : ℕ} → Through o img p img′ p′ rest → rest ≡ rest′
+      → Through o img p img′ p′ rest′
   thr-to {o} {img = img} {img′} {p} {p′} t e = subst (λ (x : Out). Through o img p img′ p′ x) e t
 
   -- ---- one step
@@ -60,11 +67,14 @@ module _ (G : Geo) where
   one-step : (p : ℕ) (x : FlashStep) → spend p (units (x ∷ [])) ≡ spend p (cost x)
   one-step p x = ap (spend p) (add-zero (cost x))
 
-  first-dead : (p : ℕ) (x : FlashStep) (xs : List FlashStep) → lasts p (cost x) ≡ false → lasts p (units (x ∷ xs)) ≡ false
+  first-dead : (p : ℕ) (x : FlashStep) (xs : List FlashStep) → lasts p (cost x) ≡ false
+      → lasts p (units (x ∷ xs)) ≡ false
   first-dead p x xs h = lasts-add p (cost x) (units xs) ∙ both-false _ _ h
 
-  pub thr-program : (at : ℕ) (bs : List ℕ) (s : St) (k : St → Out) (img′ : List ℕ) (p p′ : ℕ) → Wrote (s .img) p img′ p′ at bs
-      → Through (programming at bs s k) (s .img) p img′ p′ (k (record { img = img′; cache = s .cache; erased = s .erased }))
+  pub thr-program : (at : ℕ) (bs : List ℕ) (s : St) (k : St → Out) (img′ : List ℕ) (p p′ : ℕ)
+      → Wrote (s .img) p img′ p′ at bs
+      → Through (programming at bs s k) (s .img) p img′ p′
+      (k (record { img = img′; cache = s .cache; erased = s .erased }))
   thr-program at bs s k img′ p p′ w = go (lasts p (length bs)) refl
     where
       o : Out
@@ -76,14 +86,16 @@ module _ (G : Geo) where
       go : (b : Bool) → lasts p (length bs) ≡ b
           → Through o (s .img) p img′ p′ (k (record { img = img′; cache = s .cache; erased = s .erased }))
       go true h =
-          going (programs at bs ∷ []) (rw (add-zero (length bs)) h) (w .is) (w .left ∙ sym (one-step p (programs at bs)))
-          (rw (w .is, taken-all p bs h))
+          going (programs at bs ∷ []) (rw (add-zero (length bs)) h) (w .is)
+          (w .left ∙ sym (one-step p (programs at bs))) (rw (w .is, taken-all p bs h))
       go false h =
           let dead = spend-dead p (length bs) h in
-          gone (first-dead p (programs at bs) more h) (w .is ∙ sym (cut-first (G .page) (programs at bs) more (s .img) p dead)) (w .left ∙ dead)
+          gone (first-dead p (programs at bs) more h)
+          (w .is ∙ sym (cut-first (G .page) (programs at bs) more (s .img) p dead)) (w .left ∙ dead)
 
   pub thr-erase : (q : ℕ) (s : St) (k : St → Out) (img′ : List ℕ) (p p′ : ℕ) → Blanked G (s .img) p img′ p′ q
-      → Through (erasing G q s k) (s .img) p img′ p′ (k (record { img = img′; cache = s .cache; erased = s .erased + 1 }))
+      → Through (erasing G q s k) (s .img) p img′ p′
+      (k (record { img = img′; cache = s .cache; erased = s .erased + 1 }))
   thr-erase q s k img′ p p′ w = go (lasts p 1) refl (w .is)
     where
       o : Out
@@ -97,12 +109,14 @@ module _ (G : Geo) where
       go true h e = going (erases q ∷ []) h (rw h e) (w .left) (rw e)
       go false h e =
           let dead = spend-dead p 1 h in
-          gone (first-dead p (erases q) more h) (w .is ∙ sym (cut-first (G .page) (erases q) more (s .img) p dead)) (w .left ∙ dead)
+          gone (first-dead p (erases q) more h) (w .is ∙ sym (cut-first (G .page) (erases q) more (s .img) p dead))
+          (w .left ∙ dead)
 
   -- ---- runs one after the other
 
   -- going on by the answer of a run that came to its end
-  pub thr-on : (n : ℕ) (o : Out) (f : St → Out) (img img′ : List ℕ) (p p′ : ℕ) (a : Answer) (s : St) → Through o img p img′ p′ (out a s)
+  pub thr-on : (n : ℕ) (o : Out) (f : St → Out) (img img′ : List ℕ) (p p′ : ℕ) (a : Answer) (s : St)
+      → Through o img p img′ p′ (out a s)
       → Through (on n o f) img p img′ p′ (pick (isNo n a) (f s) (out a s))
   unfolding on
   thr-on n o f img img′ p p′ a s (going xs h i l e) = going xs h i l (rw e (go (isNo n a)))
@@ -112,22 +126,28 @@ module _ (G : Geo) where
       go false = refl
   thr-on n o f img img′ p p′ a s (gone h i l) = go (isNo n (o .ans))
     where
-      go : (b : Bool) → Through (pick b (after (o .steps) (f (o .st))) o) img p img′ p′ (pick (isNo n a) (f s) (out a s))
-      go true = gone (lasts-dead (o .steps) (f (o .st) .steps) p h) (i ∙ sym (cut-dead (G .page) (o .steps) (f (o .st) .steps) img p (spend-dead p (units (o .steps)) h))) l
+      go : (b : Bool)
+          → Through (pick b (after (o .steps) (f (o .st))) o) img p img′ p′ (pick (isNo n a) (f s) (out a s))
+      go true =
+          gone (lasts-dead (o .steps) (f (o .st) .steps) p h)
+          (i ∙ sym (cut-dead (G .page) (o .steps) (f (o .st) .steps) img p (spend-dead p (units (o .steps)) h))) l
       go false = gone h i l
 
   -- ---- a run that came to its end
 
   pub thr-cut : (o : Out) (img img′ : List ℕ) (p p′ : ℕ) (a : Answer) (s : St) → Through o img p img′ p′ (out a s)
-      → (img′ ≡ cutImage (G .page) img p (o .steps)) × (p′ ≡ spend p (units (o .steps))) × (lasts p (units (o .steps)) ≡ true → end a s ≡ final o)
+      → (img′ ≡ cutImage (G .page) img p (o .steps)) × (p′ ≡ spend p (units (o .steps)))
+      × (lasts p (units (o .steps)) ≡ true → end a s ≡ final o)
   thr-cut o img img′ p p′ a s (going xs h i l e) =
       let z : xs ≡ o .steps = sym (append-nil xs) ∙ ap (λ (x : Out). x .steps) (sym e) in
       (rw (← z) i, rw (← z) l, λ k. sym (ap final e))
-  thr-cut o img img′ p p′ a s (gone h i l) = (i, l ∙ sym (spend-dead p (units (o .steps)) h), λ k. absurd (no (sym h ∙ k)))
+  thr-cut o img img′ p p′ a s (gone h i l) =
+      (i, l ∙ sym (spend-dead p (units (o .steps)) h), λ k. absurd (no (sym h ∙ k)))
     where
       no : _≡_ {A = Bool} false true → ⊥
       no q = let z : _≡_ {A = ℕ} 0 1 = cc in absurd (omega arith)
 
   -- with endless power a run ends as it is defined
-  pub thr-endless : (o : Out) (img img′ : List ℕ) (p p′ : ℕ) (a : Answer) (s : St) → endless ≤ p → Through o img p img′ p′ (out a s) → end a s ≡ final o
+  pub thr-endless : (o : Out) (img img′ : List ℕ) (p p′ : ℕ) (a : Answer) (s : St) → endless ≤ p
+      → Through o img p img′ p′ (out a s) → end a s ≡ final o
   thr-endless o img img′ p p′ a s h t = thr-cut o img img′ p p′ a s t .2 (lasts-endless p (units (o .steps)) h)

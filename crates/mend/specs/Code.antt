@@ -15,13 +15,15 @@ use Rattle.store.specs.declared.{Run.Run}
 
 -- page q is erased if it is corrupted, and the run goes on
 pub record OneOk (G : Geo) (img : List ℕ) (p : ℕ) (img′ : List ℕ) (p′ : ℕ) (mem r : Mem) (q : ℕ) : Type 0 where
-  pub step : (n : ℕ) (k : St → Out) → Through G (eraseCorrupted G (q ∷ []) (stOf n img mem) k) img p img′ p′ (k (stOf n img′ r))
+  pub step : (n : ℕ) (k : St → Out)
+      → Through G (eraseCorrupted G (q ∷ []) (stOf n img mem) k) img p img′ p′ (k (stOf n img′ r))
   pub cache-is : r .cache ≡ mem .cache
   pub erased : r .erased ≤ mem .erased + 1
 
 -- all corrupted pages are
 pub record ErasedOk (G : Geo) (img : List ℕ) (p : ℕ) (img′ : List ℕ) (p′ : ℕ) (mem r : Mem) : Type 0 where
-  pub run : (n : ℕ) (k : St → Out) → Through G (eraseCorrupted G (allPages G) (stOf n img mem) k) img p img′ p′ (k (stOf n img′ r))
+  pub run : (n : ℕ) (k : St → Out)
+      → Through G (eraseCorrupted G (allPages G) (stOf n img mem) k) img p img′ p′ (k (stOf n img′ r))
   pub cache-is : r .cache ≡ mem .cache
   pub erased : r .erased ≤ mem .erased + G .pages
 
@@ -31,7 +33,9 @@ redoOf G p s = erasing G p s (λ s′. programming (startAt G p) (zeroWord G) s�
 
 -- a run of which no. 8 leaves the cache empty
 pub record SettledOk (n : ℕ) (run r : Run) : Type 0 where
-  pub is : (img : List ℕ) → pick (isNo 8 (run .answer)) (out Corrupted (cleared (stOf n img (run .mem)))) (out (run .answer) (stOf n img (run .mem)))
+  pub is : (img : List ℕ)
+      → pick (isNo 8 (run .answer)) (out Corrupted (cleared (stOf n img (run .mem))))
+      (out (run .answer) (stOf n img (run .mem)))
       ≡ out (r .answer) (stOf n img (r .mem))
   pub kept : Kept n (run .mem) (r .mem)
 

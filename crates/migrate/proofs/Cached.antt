@@ -39,7 +39,8 @@ no true h = let z : _≡_ {A = ℕ} 0 1 = cc in absurd (omega arith)
 no false h = refl
 
 -- the place of the key's entry is what the cache has for it
-module _ (n : ℕ) (c : Cache) (s : Sized n c) (k i x : ℕ) (e : i ≡ index k (pointers n c)) (l : i < n) (h : x ≡ getD (c .places) i 0) where
+module _ (n : ℕ) (c : Cache) (s : Sized n c) (k i x : ℕ) (e : i ≡ index k (pointers n c)) (l : i < n)
+    (h : x ≡ getD (c .places) i 0) where
   pub place-is : x ≡ lookup k (pointers n c)
   place-is = h ∙ find-hit c n s k i e l
 
@@ -51,7 +52,8 @@ hit-place : (G : Geo) (img : List ℕ) (k x p l : ℕ) → At p l ≡ told (hit 
 unfolding hit
 hit-place G img k x p l q =
     let r = x % G .page in
-    go (both (ltb (x / G .page) (G .pages)) (both (leb (G .word) r) (both (leb r (G .page - G .word)) (eqb (r % G .word) 0))))
+    go (both (ltb (x / G .page) (G .pages))
+    (both (leb (G .word) r) (both (leb r (G .page - G .word)) (eqb (r % G .word) 0))))
     (read (G .word) (take (G .page - G .word - r) (drop x img))) q
   where
     at : (i : ItemOfRules) (b : Bool) → At p l ≡ told (pick b (found (record { at = x; it = i })) missing) → p ≡ x
@@ -67,7 +69,9 @@ hit-place G img k x p l q =
 module _ (G : Geo) (n : ℕ) (img ks ps : List ℕ) (a e L wp : ℕ) (lk : length ks ≡ 32) (lp : length ps ≡ 32) where
   -- the cache settles it
   settled : (img′ : List ℕ) (p p′ : ℕ) (ks′ ps′ : List ℕ) (t : ℕ)
-      → ((erased : ℕ) → ItemOk G n img p img′ p′ (memOf ks ps erased) a e L wp (record { mem = memOf ks′ ps′ erased; to = t; ok = true }))
+      → ((erased : ℕ)
+      → ItemOk G n img p img′ p′ (memOf ks ps erased) a e L wp
+      (record { mem = memOf ks′ ps′ erased; to = t; ok = true }))
       → length ks′ ≡ 32 → length ps′ ≡ 32 → StepOk G n img p img′ p′ ks ks′ ps ps′ a e L wp (To t)
   settled img′ p p′ ks′ ps′ t M lk′ lp′ = record {
     to = λ u erased q. let z : t ≡ u = cc in rw (← z) (M erased);
@@ -76,7 +80,8 @@ module _ (G : Geo) (n : ℕ) (img ks ps : List ℕ) (a e L wp : ℕ) (lk : lengt
   }
 
   -- the fetch is asked
-  pub asked : (p : ℕ) (b : Bool) → b ≡ isPresent (itemOf (part img a e) L .kind) → b ≡ true → 4 ≤ L → StepOk G n img p img p ks ks ps ps a e L wp Ask
+  pub asked : (p : ℕ) (b : Bool) → b ≡ isPresent (itemOf (part img a e) L .kind) → b ≡ true → 4 ≤ L
+      → StepOk G n img p img p ks ks ps ps a e L wp Ask
   asked pw b p t h = record {
     to = λ u erased q. let z : _≡_ {A = ℕ} 0 1 = cc in absurd (omega arith);
     ask = λ q. (refl, refl, refl, sym p ∙ t, h, refl);
@@ -84,26 +89,32 @@ module _ (G : Geo) (n : ℕ) (img ks ps : List ℕ) (a e L wp : ℕ) (lk : lengt
   }
 
   -- not Present
-  pub passed : (p : ℕ) (b : Bool) → b ≡ isPresent (itemOf (part img a e) L .kind) → not b ≡ true → StepOk G n img p img p ks ks ps ps a e L wp (To wp)
-  passed pw b p f = settled img pw pw ks ps wp (λ erased. item-not G n img (memOf ks ps erased) a e L wp pw (sym (no b f) ∙ p)) lk lp
+  pub passed : (p : ℕ) (b : Bool) → b ≡ isPresent (itemOf (part img a e) L .kind) → not b ≡ true
+      → StepOk G n img p img p ks ks ps ps a e L wp (To wp)
+  passed pw b p f =
+      settled img pw pw ks ps wp (λ erased. item-not G n img (memOf ks ps erased) a e L wp pw (sym (no b f) ∙ p)) lk lp
 
-  module _ (key x : ℕ) (hk : key ≡ itemOf (part img a e) L .key) (hx : x ≡ lookup key (pointers n (arrays ks ps))) (nz : x ≢ 0)
-      (b : Bool) (pr : b ≡ isPresent (itemOf (part img a e) L .kind)) (tr : b ≡ true) where
+  module _ (key x : ℕ) (hk : key ≡ itemOf (part img a e) L .key) (hx : x ≡ lookup key (pointers n (arrays ks ps)))
+      (nz : x ≢ 0) (b : Bool) (pr : b ≡ isPresent (itemOf (part img a e) L .kind)) (tr : b ≡ true) where
     -- what the fetch finds at the cached place
     got : (erased p l : ℕ) → At p l ≡ told (hit G img key x)
-        → gotOf n img (record { mem = memOf ks ps erased; spot = At p l }) ≡ toldGot (fetchIn G key (stOf n img (memOf ks ps erased)))
+        → gotOf n img (record { mem = memOf ks ps erased; spot = At p l })
+        ≡ toldGot (fetchIn G key (stOf n img (memOf ks ps erased)))
     got erased p l q = fetch-hit G key n img (memOf ks ps erased) x hx p l nz q
 
     -- the newest is elsewhere
-    pub elsewhere : (pw p l : ℕ) → At p l ≡ told (hit G img key x) → x ≢ a → StepOk G n img pw img pw ks ks ps ps a e L wp (To wp)
+    pub elsewhere : (pw p l : ℕ) → At p l ≡ told (hit G img key x) → x ≢ a
+        → StepOk G n img pw img pw ks ks ps ps a e L wp (To wp)
     elsewhere pw p l q ne =
-        settled img pw pw ks ps wp (λ erased.
-        item-one G n img (memOf ks ps erased) a e L wp img pw pw (record { mem = memOf ks ps erased; to = wp; ok = true }) (sym tr ∙ pr)
-        (move-not G n img (memOf ks ps erased) a e L wp key (record { mem = memOf ks ps erased; spot = At p l }) hk (got erased p l q)
-        (kept-refl n (memOf ks ps erased)) pw p l refl (λ z. ne (sym (hit-place G img key x p l q) ∙ z)))) lk lp
+        settled img pw pw ks ps wp
+        (λ erased. item-one G n img (memOf ks ps erased) a e L wp img pw pw
+        (record { mem = memOf ks ps erased; to = wp; ok = true }) (sym tr ∙ pr)
+        (move-not G n img (memOf ks ps erased) a e L wp key (record { mem = memOf ks ps erased; spot = At p l }) hk
+        (got erased p l q) (kept-refl n (memOf ks ps erased)) pw p l refl
+        (λ z. ne (sym (hit-place G img key x p l q) ∙ z)))) lk lp
 
-    module _ (h : Held G (length img)) (y : Lies G a e) (here : x ≡ a) (ha : a + size (G .word) L ≤ e) (hl : a + 8 + L ≤ length img)
-        (hr : readOf (part img a e) (Item L) ≡ read (G .word) (part img a e))
+    module _ (h : Held G (length img)) (y : Lies G a e) (here : x ≡ a) (ha : a + size (G .word) L ≤ e)
+        (hl : a + 8 + L ≤ length img) (hr : readOf (part img a e) (Item L) ≡ read (G .word) (part img a e))
         (hwp : wp + size (G .word) L ≤ length img) (apart : (wp + size (G .word) L ≤ a) ⊎ (e ≤ wp)) where
       own-hit : At a L ≡ told (hit G img key x)
       own-hit =
@@ -113,22 +124,27 @@ module _ (G : Geo) (n : ℕ) (img ks ps : List ℕ) (a e L wp : ℕ) (lk : lengt
           rw (here, z, ← hr, ← pr, tr, eq-eqb (itemOf (part img a e) L .key) key (sym hk))
 
       -- the newest is here, and the target is blank
-      pub copied-here : (span : ℕ) (c : Bool) → span ≡ size (G .word) L → c ≡ allFF (take (wp + span - wp) (drop wp img)) → c ≡ true
+      pub copied-here : (span : ℕ) (c : Bool) → span ≡ size (G .word) L
+          → c ≡ allFF (take (wp + span - wp) (drop wp img)) → c ≡ true
           → (img′ : List ℕ) (pw pw′ : ℕ) (ks′ ps′ : List ℕ) → NotedOk n key wp (arrays ks ps) (arrays ks′ ps′)
           → Wrote img pw img′ pw′ wp (take (8 + L) (drop a img) ++ pad (G .word) L)
           → StepOk G n img pw img′ pw′ ks ks′ ps ps′ a e L wp (To (wp + span))
       copied-here span c hs hc t img′ pw pw′ ks′ ps′ N q =
-          settled img′ pw pw′ ks′ ps′ (wp + span) (λ erased.
-          let r : Moved = record { mem = memOf ks′ ps′ erased; to = wp + span; ok = true } in
-          let C = copy-yes G n img (memOf ks ps erased) key a L wp span c hs hc pw pw′ (memOf ks′ ps′ erased) (N .noted) (record { past = N .past; erased = refl }) img′ t q in
+          settled img′ pw pw′ ks′ ps′ (wp + span)
+          (λ erased. let r : Moved = record { mem = memOf ks′ ps′ erased; to = wp + span; ok = true } in
+          let C = copy-yes G n img (memOf ks ps erased) key a L wp span c hs hc pw pw′ (memOf ks′ ps′ erased) (N .noted)
+          (record { past = N .past; erased = refl }) img′ t q in
           item-one G n img (memOf ks ps erased) a e L wp img′ pw pw′ r (sym tr ∙ pr)
-          (move-copy G n img (memOf ks ps erased) a e L wp key (record { mem = memOf ks ps erased; spot = At a L }) hk (got erased a L own-hit)
-          (kept-refl n (memOf ks ps erased)) img′ pw pw′ r C (omega (arith, h .low)) ha hl hwp apart a L refl refl)) (N .keys-long) (N .places-long)
+          (move-copy G n img (memOf ks ps erased) a e L wp key (record { mem = memOf ks ps erased; spot = At a L }) hk
+          (got erased a L own-hit) (kept-refl n (memOf ks ps erased)) img′ pw pw′ r C (omega (arith, h .low)) ha hl hwp
+          apart a L refl refl)) (N .keys-long) (N .places-long)
 
 -- ---- a page's first place, and the place after what is read
 
-pub page-lies : (G : Geo) (len : ℕ) → Held G len → (q : ℕ) → q < G .pages → (a e : ℕ) → a ≡ dataAt G q → e ≡ endAt G q → Lies G a e
-page-lies G len h q i a e ha he = record { page = q; off = 1; page-in = i; at-is = omega arith; low = omega arith; end-is = he }
+pub page-lies : (G : Geo) (len : ℕ) → Held G len → (q : ℕ) → q < G .pages → (a e : ℕ) → a ≡ dataAt G q → e ≡ endAt G q
+    → Lies G a e
+page-lies G len h q i a e ha he =
+    record { page = q; off = 1; page-in = i; at-is = omega arith; low = omega arith; end-is = he }
 
 pub lies-skip : (G : Geo) (a e : ℕ) → Lies G a e → Lies G (a + G .word) e
 lies-skip G a e y = record {
@@ -160,4 +176,5 @@ kept-apart n m r K = record { past = K .past; erased = refl }
 
 pub run-apart : (G : Geo) (n : ℕ) (img : List ℕ) (a e wp : ℕ) (m r : Mem) → Kept n m r
     → runOf G n img (memOf (r .cache .keys) (r .cache .places) (m .erased)) a e wp ≡ runOf G n img r a e wp
-run-apart G n img a e wp m r K = ap (λ (x : ℕ). runOf G n img (memOf (r .cache .keys) (r .cache .places) x) a e wp) (sym (K .erased))
+run-apart G n img a e wp m r K =
+    ap (λ (x : ℕ). runOf G n img (memOf (r .cache .keys) (r .cache .places) x) a e wp) (sym (K .erased))

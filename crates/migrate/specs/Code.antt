@@ -38,7 +38,9 @@ stepOf G e wp s k = pick (isPresent (e .it .kind)) (oneOf G e wp s k) (k wp s)
 -- what a copy leaves
 pub record CopiedOk (G : Geo) (n : ℕ) (img : List ℕ) (p : ℕ) (img′ : List ℕ) (p′ : ℕ) (mem : Mem) (key a L wp : ℕ) (r : Moved) : Type 0 where
   pub ok-is : r .ok ≡ blankAt img wp (size (G .word) L)
-  pub yes : r .ok ≡ true → Wrote img p img′ p′ wp (take (8 + L) (drop a img) ++ pad (G .word) L) × (pointers n (r .mem .cache) ≡ note key wp (pointers n (mem .cache)))
+  pub yes : r .ok ≡ true
+      → Wrote img p img′ p′ wp (take (8 + L) (drop a img) ++ pad (G .word) L)
+      × (pointers n (r .mem .cache) ≡ note key wp (pointers n (mem .cache)))
   pub no : r .ok ≡ false → (img′ ≡ img) × (p′ ≡ p) × (pointers n (r .mem .cache) ≡ pointers n (mem .cache))
   pub to-is : r .to ≡ pick (r .ok) (wp + size (G .word) L) wp
   pub kept : Kept n mem (r .mem)
@@ -51,11 +53,13 @@ pub record Around (G : Geo) (n : ℕ) (img img′ : List ℕ) (mem : Mem) (a e L
   pub high : r .to ≤ wp + size (G .word) L
 
 pub record MovedOk (G : Geo) (n : ℕ) (img : List ℕ) (p : ℕ) (img′ : List ℕ) (p′ : ℕ) (mem : Mem) (a e L wp : ℕ) (r : Moved) : Type 0 where
-  pub step : (k : ℕ → St → Out) → Through G (oneOf G (entryAt img a e L) wp (stOf n img mem) k) img p img′ p′ (goOn r (stOf n img′ (r .mem)) k)
+  pub step : (k : ℕ → St → Out)
+      → Through G (oneOf G (entryAt img a e L) wp (stOf n img mem) k) img p img′ p′ (goOn r (stOf n img′ (r .mem)) k)
   pub around : Around G n img img′ mem a e L wp r
 
 pub record ItemOk (G : Geo) (n : ℕ) (img : List ℕ) (p : ℕ) (img′ : List ℕ) (p′ : ℕ) (mem : Mem) (a e L wp : ℕ) (r : Moved) : Type 0 where
-  pub step : (k : ℕ → St → Out) → Through G (stepOf G (entryAt img a e L) wp (stOf n img mem) k) img p img′ p′ (goOn r (stOf n img′ (r .mem)) k)
+  pub step : (k : ℕ → St → Out)
+      → Through G (stepOf G (entryAt img a e L) wp (stOf n img mem) k) img p img′ p′ (goOn r (stOf n img′ (r .mem)) k)
   pub around : Around G n img img′ mem a e L wp r
 
 -- a place on a word of the data area that ends at e
@@ -74,8 +78,10 @@ memOf ks ps n = record { cache = arrays ks ps; erased = n }
 -- a step that the cache settles, or that changes nothing and leaves a Present item to the fetch
 pub record StepOk (G : Geo) (n : ℕ) (img : List ℕ) (p : ℕ) (img′ : List ℕ) (p′ : ℕ) (ks ks′ ps ps′ : List ℕ) (a e L wp : ℕ) (s : Step) : Type 0 where
   pub to : (t erased : ℕ) → s ≡ To t
-      → ItemOk G n img p img′ p′ (memOf ks ps erased) a e L wp (record { mem = memOf ks′ ps′ erased; to = t; ok = true })
-  pub ask : s ≡ Ask → (img′ ≡ img) × (ks′ ≡ ks) × (ps′ ≡ ps) × (isPresent (itemOf (part img a e) L .kind) ≡ true) × (4 ≤ L) × (p′ ≡ p)
+      → ItemOk G n img p img′ p′ (memOf ks ps erased) a e L wp
+      (record { mem = memOf ks′ ps′ erased; to = t; ok = true })
+  pub ask : s ≡ Ask
+      → (img′ ≡ img) × (ks′ ≡ ks) × (ps′ ≡ ps) × (isPresent (itemOf (part img a e) L .kind) ≡ true) × (4 ≤ L) × (p′ ≡ p)
   pub long : (length ks′ ≡ 32) × (length ps′ ≡ 32)
 
 -- the end of a run over items

@@ -46,14 +46,17 @@ pub record RemovedOk (b : Bool) (img : List ℕ) (p : ℕ) (img′ : List ℕ) (
 
 -- such a run changes the image to this, whatever stands beside it, and goes on: over items, over a page
 pub record EntriesOk (w : ℕ) (t : Wanted) (a e : ℕ) (img : List ℕ) (p : ℕ) (img′ : List ℕ) (p′ : ℕ) : Type 0 where
-  pub run : (G : Geo) (c : Cache) (n : ℕ) (k : St → Out) → Through G (entriesOf w t a e (stWith img c n) k) img p img′ p′ (k (stWith img′ c n))
+  pub run : (G : Geo) (c : Cache) (n : ℕ) (k : St → Out)
+      → Through G (entriesOf w t a e (stWith img c n) k) img p img′ p′ (k (stWith img′ c n))
 
 pub record PageOk (G : Geo) (t : Wanted) (q : ℕ) (img : List ℕ) (p : ℕ) (img′ : List ℕ) (p′ : ℕ) : Type 0 where
-  pub run : (c : Cache) (n : ℕ) (k : St → Out) → Through G (pageOf G t q (stWith img c n) k) img p img′ p′ (k (stWith img′ c n))
+  pub run : (c : Cache) (n : ℕ) (k : St → Out)
+      → Through G (pageOf G t q (stWith img c n) k) img p img′ p′ (k (stWith img′ c n))
 
 -- a run over all pages from q on changes the image to this, and is done
 pub record PagesOk (G : Geo) (t : Wanted) (q : ℕ) (img : List ℕ) (p : ℕ) (img′ : List ℕ) (p′ : ℕ) : Type 0 where
-  pub run : (c : Cache) (n : ℕ) → Through G (removePages G t (ringUp G q) (stWith img c n)) img p img′ p′ (out Done (stWith img′ c n))
+  pub run : (c : Cache) (n : ℕ)
+      → Through G (removePages G t (ringUp G q) (stWith img c n)) img p img′ p′ (out Done (stWith img′ c n))
 
 -- the memory with this forgotten
 pub record ForgotOk (n : ℕ) (t : Wanted) (mem r : Mem) : Type 0 where

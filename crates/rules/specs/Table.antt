@@ -1,12 +1,12 @@
 -- Document 01's examples marked (P), and what its rules say at their borders: one table, proved together by computation.
 use mathlib.Core.Path.{_≡_, refl}
 use Prim.Native.Nat.{ℕ, zero, suc}
-use mathlib.Core.Bool.{Bool, true, false}
+use mathlib.Core.Bool.{Bool, true, false, not}
 use mathlib.Core.List.{List, [], _∷_, _++_}
 use lib.ListN.{take, drop, replicate}
 use lib.Dec.{eqb}
 use Rattle.rules.specs.declared.{Geo.Geo, Answer.Answer, PageState.the-variants.Open, PageState.the-variants.PartialOpen}
-use Rattle.rules.specs.Bytes.{both, splice, program, erase, zerosIn, zeroBits, roundUp}
+use Rattle.rules.specs.Bytes.{both, FlashStep, splice, program, erase, zerosIn, zeroBits, roundUp}
 use Rattle.rules.specs.Items.{readBy, read, size, pad, encode, encodeData, scan}
 use Rattle.rules.specs.Pages.{same, state, scanOf, ringUp, ringDown}
 use Rattle.rules.specs.Cache.{Cache, emptyPointer, note, forget, clear}
@@ -16,7 +16,8 @@ use Rattle.rules.specs.Fetch.{view, newest, hit, fetchIn, plainFetch}
 use Rattle.rules.specs.Store.{migrateAll, migrate, rolled, rollover, turn, turns, eraseCorrupted, mend, repair, autoRepair, fetch, store}
 use Rattle.rules.specs.Remove.{removeEntries, removePages, remove}
 use Rattle.rules.specs.Walk.{walkStart, walkStep}
-use Rattle.rules.specs.Calls.{Call, fetchItem, storeItem, removeItem, fetchAllItems, nextItem, Lent, Told, behind, called, geoOf}
+use Rattle.rules.specs.Calls.{Call, fetchItem, storeItem, removeItem, fetchAllItems, nextItem, Lent, Told, behind, called, geoOf, stepsBehind, stepsOf}
+use Rattle.rules.specs.Power.{endless, lasts, spend, taken, units, cutImage}
 
 -- ---- words of the rows
 
@@ -53,9 +54,15 @@ keys (e ∷ es) = e .key ∷ keys es
 G32 : Geo
 G32 = geoOf 4 32 64
 
--- calls at E 32 without a cache, at E 64 without one, at E 64 with a cache of 2
+-- calls at E 32 without a cache, their flash steps, what these leave with power p; calls at E 64 without one, at E 64 with a cache of 2
 abbrev call32 : Call → Lent → Told
 call32 c l = called 4 32 0 c l
+
+abbrev steps32 : Call → Lent → List FlashStep
+steps32 c l = stepsOf 4 32 0 c l
+
+abbrev cut32 : ℕ → Call → Lent → List ℕ
+cut32 p c l = cutImage 32 (l .image) p (steps32 c l)
 
 abbrev call64 : Call → Lent → Told
 call64 c l = called 4 64 0 c l
@@ -174,8 +181,21 @@ table =
     ∷ says (call32 (fetchItem 1) (record { image = pageAA 0xFE; cache = [] }) .answer) 0 (16 ∷ 1 ∷ [])
     -- a part that does not lie in the image is its empty start
     ∷ both (eqList (view (pageAA 0xFF) 16 1) (0xAA ∷ [])) (eqList (view (pageAA 0xFF) 64 1) [])
+    -- a byte takes one unit, 0xFF too, a mark its whole word; a refusal takes none
+    ∷ eqb (units (steps32 (storeItem 1 (0xAA ∷ [])) (blank 64))) 20
+    ∷ eqb (units (steps32 (storeItem 1 (replicate 13 0)) (blank 64))) 0
+    -- bytes are programmed in order of place while the power lasts
+    ∷ eqList (cut32 4 (storeItem 1 (0xAA ∷ [])) (blank 64)) (replicate 4 0 ++ replicate 60 0xFF)
+    ∷ eqList (cut32 13 (storeItem 1 (0xAA ∷ [])) (blank 64)) (take 13 (pageAA 0xFF) ++ replicate 51 0xFF)
+    -- an erase takes one unit: after 24 of them page 0 is closed and its item copied, with one more it is erased
+    ∷ eqb (units (steps32 (storeItem 2 []) (again storedAA))) 50
+    ∷ eqList (cut32 24 (storeItem 2 []) (again storedAA)) (take 28 (pageAA 0xFF) ++ replicate 4 0 ++ take 32 (pageAA 0xFF))
+    ∷ eqList (cut32 25 (storeItem 2 []) (again storedAA)) (replicate 32 0xFF ++ take 32 (pageAA 0xFF))
+    -- exactly enough is enough, and leaves none; 2^64 - 1 never runs out
+    ∷ both (lasts 20 20) (both (not (lasts 19 20)) (eqb (spend 20 20) 0))
+    ∷ both (lasts endless 20) (eqb (spend endless 20) endless)
     ∷ []
 
 pub table-holds : all table ≡ true
-unfolding table G32 storedAA five noted stores walk step last zerosIn zeroBits roundUp splice program erase readBy read size pad encode encodeData scan state scanOf ringUp ringDown note forget clear refusal on view newest hit fetchIn plainFetch migrateAll migrate rolled rollover turn turns eraseCorrupted mend repair autoRepair fetch store removeEntries removePages remove walkStart walkStep behind called
+unfolding table G32 storedAA five noted stores walk step last zerosIn zeroBits roundUp splice program erase readBy read size pad encode encodeData scan state scanOf ringUp ringDown note forget clear refusal on view newest hit fetchIn plainFetch migrateAll migrate rolled rollover turn turns eraseCorrupted mend repair autoRepair fetch store removeEntries removePages remove walkStart walkStep behind called stepsBehind stepsOf lasts spend taken
 table-holds = refl

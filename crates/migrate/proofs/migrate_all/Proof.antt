@@ -18,7 +18,8 @@ abbrev Inv-loop : tie.InvT-loop
 Inv-loop img₀ g mem slots a e to power₀ w keys₀ places₀ at₀ wp₀ img power keys places at wp =
     (a ≤ at) × (at ≤ e) × (to ≤ wp) × (wp + (e - at) ≤ to + (e - a)) × (length img ≡ length img₀)
     × Kept slots mem (memOf keys places (mem .erased))
-    × Through g (runOf g slots img₀ mem a e to) img₀ power₀ img power (runOf g slots img (memOf keys places (mem .erased)) at e wp)
+    × Through g (runOf g slots img₀ mem a e to) img₀ power₀ img power
+    (runOf g slots img (memOf keys places (mem .erased)) at e wp)
     × Lies g at e × (length keys ≡ 32) × (length places ≡ 32)
 
 abbrev μ-loop : tie.MeasureT-loop
@@ -27,47 +28,73 @@ abbrev μ-loop : tie.MeasureT-loop
 loop-holds : tie.Need-loop-holds Inv-loop μ-loop
 loop-holds c =
     let a = c .before .before .before .before .args in
-    let p = c .before .before .before .before .pre in
-    (omega arith, omega (arith, p), omega arith, omega arith, refl, kept-refl _ _, thr-refl _ _ _ _, p .2, search needs, search needs)
+    let p = c .before .before .before .before .pre in (
+      omega arith,
+      omega (arith, p),
+      omega arith,
+      omega arith,
+      refl,
+      kept-refl _ _,
+      thr-refl _ _ _ _,
+      p .2,
+      search needs,
+      search needs,
+    )
 
 returns : tie.Need-returns Inv-loop μ-loop
 returns c =
-    let a = c .before .before .before .before .before .before .before .before .before .before .before .args in
-    let p = c .before .before .before .before .before .before .before .before .before .before .before .pre in
-    let l = c .before .before .before .before .before .before .loop in
-    let t = c .before .before .before .before .before .loop-test in
-    let r = c .before .before .before .look-at in
+    let at-look-at = c .before .before .before in
+    let at-loop-test = at-look-at .before .before in
+    let at-loop = at-loop-test .before in
+    let at-start = at-loop .before .before .before .before .before in
+    let a = at-start .args in
+    let p = at-start .pre in
+    let l = at-loop .loop in
+    let t = at-loop-test .loop-test in
+    let r = at-look-at .look-at in
     let q = c .before .enum-told in
     let m = c .all-moved in
     rw (m .ensures) (record {
-      run = thr-to (a .g) (l .inv .6) (run-end (a .g) (a .slots) (l .img) (memOf (l .keys) (l .places) (a .mem .erased)) (l .at) (a .e) (l .wp) (omega (arith, p .0 .low)) (omega (arith, p .4, l .inv .4)) (r .result) (t .taken) (r .ensures .0) (q .given .1));
+      run = thr-to (a .g) (l .inv .6)
+          (run-end (a .g) (a .slots) (l .img) (memOf (l .keys) (l .places) (a .mem .erased)) (l .at) (a .e) (l .wp)
+          (omega (arith, p .0 .low)) (omega (arith, p .4, l .inv .4)) (r .result) (t .taken) (r .ensures .0)
+          (q .given .1));
       kept = l .inv .5;
     })
 
 add-at : tie.Need-add-at Inv-loop μ-loop
 add-at c =
-    let a = c .before .before .before .before .before .before .before .before .before .before .args in
-    let p = c .before .before .before .before .before .before .before .before .before .before .pre in
-    let l = c .before .before .before .before .before .loop in
-    let r = c .before .before .look-at in
+    let at-look-at = c .before .before in
+    let at-loop = at-look-at .before .before .before in
+    let at-start = at-loop .before .before .before .before .before in
+    let a = at-start .args in
+    let p = at-start .pre in
+    let l = at-loop .loop in
+    let r = at-look-at .look-at in
     let q = c .enum-told2 in
     let f = rw (q .given .1) at (r .ensures .1) in
     omega (arith, f, p .4, held-len (a .g) (length (a .img .now)) (p .0))
 
 loop-less : tie.Need-loop-less Inv-loop μ-loop
 loop-less c =
-    let a = c .before .before .before .before .before .before .before .before .before .before .args in
-    let p = c .before .before .before .before .before .before .before .before .before .before .pre in
-    let t = c .before .before .before .before .loop-test in
+    let at-loop-test = c .before .before .before .before in
+    let at-start = at-loop-test .before .before .before .before .before .before in
+    let a = at-start .args in
+    let p = at-start .pre in
+    let t = at-loop-test .loop-test in
     omega (arith, t .taken, p .0 .low)
 
 loop-again : tie.Need-loop-again Inv-loop μ-loop
 loop-again c =
-    let a = c .before .before .before .before .before .before .before .before .before .before .args in
-    let p = c .before .before .before .before .before .before .before .before .before .before .pre in
-    let l = c .before .before .before .before .before .loop in
-    let t = c .before .before .before .before .loop-test in
-    let r = c .before .before .look-at in
+    let at-look-at = c .before .before in
+    let at-loop-test = at-look-at .before .before in
+    let at-loop = at-loop-test .before in
+    let at-start = at-loop .before .before .before .before .before in
+    let a = at-start .args in
+    let p = at-start .pre in
+    let l = at-loop .loop in
+    let t = at-loop-test .loop-test in
+    let r = at-look-at .look-at in
     let q = c .enum-told2 in
     let f = rw (q .given .1) at (r .ensures .1) in
     let i = l .inv in (
@@ -77,7 +104,9 @@ loop-again c =
       omega (arith, i .3),
       i .4,
       i .5,
-      thr-to (a .g) (i .6) (run-skip (a .g) (a .slots) (l .img) (memOf (l .keys) (l .places) (a .mem .erased)) (l .at) (a .e) (l .wp) (omega (arith, p .0 .low)) (omega (arith, p .4, l .inv .4)) (r .result) (t .taken) (r .ensures .0) (q .given .1)),
+      thr-to (a .g) (i .6) (run-skip (a .g) (a .slots) (l .img) (memOf (l .keys) (l .places) (a .mem .erased)) (l .at)
+          (a .e) (l .wp) (omega (arith, p .0 .low)) (omega (arith, p .4, l .inv .4)) (r .result) (t .taken)
+          (r .ensures .0) (q .given .1)),
       lies-skip (a .g) (l .at) (a .e) (i .7),
       i .8,
       i .9,
@@ -85,30 +114,39 @@ loop-again c =
 
 size-requires : tie.Need-size-requires Inv-loop μ-loop
 size-requires c κs =
-    let a = c .before .before .before .before .before .before .before .before .before .before .before .args in
-    let p = c .before .before .before .before .before .before .before .before .before .before .before .pre in
-    let r = c .before .before .before .look-at in
+    let at-look-at = c .before .before .before in
+    let at-start = at-look-at .before .before .before .before .before .before .before .before in
+    let a = at-start .args in
+    let p = at-start .pre in
+    let r = at-look-at .look-at in
     let q = c .before .r in
     let f = rw (q .given .1) at (r .ensures .1) in
     (p .0 .low, p .0 .high, omega (arith, f .2))
 
 add-next : tie.Need-add-next Inv-loop μ-loop
 add-next c =
-    let a = c .before .before .before .before .before .before .before .before .before .before .before .before .args in
-    let p = c .before .before .before .before .before .before .before .before .before .before .before .before .pre in
+    let at-r = c .before .before in
+    let at-look-at = at-r .before .before in
+    let at-start = at-look-at .before .before .before .before .before .before .before .before in
+    let a = at-start .args in
+    let p = at-start .pre in
     let z = c .size in
-    let r = c .before .before .before .before .look-at in
-    let q = c .before .before .r in
+    let r = at-look-at .look-at in
+    let q = at-r .r in
     let f = rw (q .given .1) at (r .ensures .1) in
     omega (arith, z .ensures .0, f .0, p .4, held-len (a .g) (length (a .img .now)) (p .0))
 
 move-cached-requires : tie.Need-move-cached-requires Inv-loop μ-loop
 move-cached-requires c κs =
-    let a = c .before .before .before .before .before .before .before .before .before .before .before .before .before .before .before .before .args in
-    let p = c .before .before .before .before .before .before .before .before .before .before .before .before .before .before .before .before .pre in
-    let l = c .before .before .before .before .before .before .before .before .before .before .before .loop in
-    let r = c .before .before .before .before .before .before .before .before .look-at in
-    let q = c .before .before .before .before .before .before .r in
+    let at-r = c .before .before .before .before .before .before in
+    let at-look-at = at-r .before .before in
+    let at-loop = at-look-at .before .before .before in
+    let at-start = at-loop .before .before .before .before .before in
+    let a = at-start .args in
+    let p = at-start .pre in
+    let l = at-loop .loop in
+    let r = at-look-at .look-at in
+    let q = at-r .r in
     let f = rw (q .given .1) at (r .ensures .1) in
     let g = rw (q .given .1) at (r .ensures .0) in
     let i = l .inv in (
@@ -127,22 +165,32 @@ move-cached-requires c κs =
 
 loop-less-2 : tie.Need-loop-less-2 Inv-loop μ-loop
 loop-less-2 c =
-    let a = c .before .before .before .before .before .before .before .before .before .before .before .before .before .before .before .before .before .before .before .before .before .before .args in
-    let p = c .before .before .before .before .before .before .before .before .before .before .before .before .before .before .before .before .before .before .before .before .before .before .pre in
-    let t = c .before .before .before .before .before .before .before .before .before .before .before .before .before .before .before .before .loop-test in
-    let z = c .before .before .before .before .before .before .before .before .before .before .size in
+    let at-size = c .before .before .before .before .before .before .before .before .before .before in
+    let at-loop-test = at-size .before .before .before .before .before .before in
+    let at-start = at-loop-test .before .before .before .before .before .before in
+    let a = at-start .args in
+    let p = at-start .pre in
+    let t = at-loop-test .loop-test in
+    let z = at-size .size in
     omega (arith, t .taken, z .ensures)
 
 loop-again-2 : tie.Need-loop-again-2 Inv-loop μ-loop
 loop-again-2 c =
-    let a = c .before .before .before .before .before .before .before .before .before .before .before .before .before .before .before .before .before .before .before .before .before .before .args in
-    let p = c .before .before .before .before .before .before .before .before .before .before .before .before .before .before .before .before .before .before .before .before .before .before .pre in
-    let l = c .before .before .before .before .before .before .before .before .before .before .before .before .before .before .before .before .before .loop in
-    let t = c .before .before .before .before .before .before .before .before .before .before .before .before .before .before .before .before .loop-test in
-    let r = c .before .before .before .before .before .before .before .before .before .before .before .before .before .before .look-at in
-    let q = c .before .before .before .before .before .before .before .before .before .before .before .before .r in
-    let z = c .before .before .before .before .before .before .before .before .before .before .size in
-    let m = c .before .before .before .before .before .move-cached in
+    let at-move-cached = c .before .before .before .before .before in
+    let at-size = at-move-cached .before .before .before .before .before in
+    let at-r = at-size .before .before in
+    let at-look-at = at-r .before .before in
+    let at-loop-test = at-look-at .before .before in
+    let at-loop = at-loop-test .before in
+    let at-start = at-loop .before .before .before .before .before in
+    let a = at-start .args in
+    let p = at-start .pre in
+    let l = at-loop .loop in
+    let t = at-loop-test .loop-test in
+    let r = at-look-at .look-at in
+    let q = at-r .r in
+    let z = at-size .size in
+    let m = at-move-cached .move-cached in
     let s = c .before .s in
     let f = rw (q .given .1) at (r .ensures .1) in
     let i = l .inv in
@@ -155,7 +203,9 @@ loop-again-2 c =
       omega (arith, i .3, A .high, f .0, e),
       omega (arith, m .kept, i .4),
       kept-trans _ _ _ _ (i .5) (A .kept),
-      rw e (thr-then (a .g) (i .6) (run-on (a .g) (a .slots) (l .img) (memOf (l .keys) (l .places) (a .mem .erased)) (l .at) (a .e) (l .wp) (omega (arith, p .0 .low)) (omega (arith, p .4, l .inv .4)) (r .result) (t .taken) (r .ensures .0) (q .given .0 .0) (q .given .1) _ _ _ _ M refl)),
+      rw e (thr-then (a .g) (i .6) (run-on (a .g) (a .slots) (l .img) (memOf (l .keys) (l .places) (a .mem .erased))
+          (l .at) (a .e) (l .wp) (omega (arith, p .0 .low)) (omega (arith, p .4, l .inv .4)) (r .result) (t .taken)
+          (r .ensures .0) (q .given .0 .0) (q .given .1) _ _ _ _ M refl)),
       rw e (lies-item (a .g) (length (a .img .now)) (p .0) (l .at) (a .e) (i .7) (q .given .0 .0)),
       m .ensures .long .0,
       m .ensures .long .1,
@@ -163,13 +213,19 @@ loop-again-2 c =
 
 migrate-one-requires : tie.Need-migrate-one-requires Inv-loop μ-loop
 migrate-one-requires c κs =
-    let a = c .before .before .before .before .before .before .before .before .before .before .before .before .before .before .before .before .before .before .before .before .before .before .before .args in
-    let p = c .before .before .before .before .before .before .before .before .before .before .before .before .before .before .before .before .before .before .before .before .before .before .before .pre in
-    let l = c .before .before .before .before .before .before .before .before .before .before .before .before .before .before .before .before .before .before .loop in
-    let r = c .before .before .before .before .before .before .before .before .before .before .before .before .before .before .before .look-at in
-    let q = c .before .before .before .before .before .before .before .before .before .before .before .before .before .r in
-    let m = c .before .before .before .before .before .before .move-cached in
-    let s = c .before .before .enum-told3 in
+    let at-enum-told3 = c .before .before in
+    let at-move-cached = at-enum-told3 .before .before .before .before in
+    let at-r = at-move-cached .before .before .before .before .before .before .before in
+    let at-look-at = at-r .before .before in
+    let at-loop = at-look-at .before .before .before in
+    let at-start = at-loop .before .before .before .before .before in
+    let a = at-start .args in
+    let p = at-start .pre in
+    let l = at-loop .loop in
+    let r = at-look-at .look-at in
+    let q = at-r .r in
+    let m = at-move-cached .move-cached in
+    let s = at-enum-told3 .enum-told3 in
     let f = rw (q .given .1) at (r .ensures .1) in
     let i = l .inv in
     let n = m .ensures .ask (s .given .1) in (
@@ -185,29 +241,44 @@ migrate-one-requires c κs =
 
 loop-less-3 : tie.Need-loop-less-3 Inv-loop μ-loop
 loop-less-3 c =
-    let a = c .before .before .before .before .before .before .before .before .before .before .before .before .before .before .before .before .before .before .before .before .before .before .before .before .before .before .before .before .before .before .before .args in
-    let p = c .before .before .before .before .before .before .before .before .before .before .before .before .before .before .before .before .before .before .before .before .before .before .before .before .before .before .before .before .before .before .before .pre in
-    let t = c .before .before .before .before .before .before .before .before .before .before .before .before .before .before .before .before .before .before .before .before .before .before .before .before .before .loop-test in
-    let z = c .before .before .before .before .before .before .before .before .before .before .before .before .before .before .before .before .before .before .before .size in
+    let at-size = c .before .before .before .before .before .before .before .before .before .before .before .before
+    .before .before .before .before .before .before .before in
+    let at-loop-test = at-size .before .before .before .before .before .before in
+    let at-start = at-loop-test .before .before .before .before .before .before in
+    let a = at-start .args in
+    let p = at-start .pre in
+    let t = at-loop-test .loop-test in
+    let z = at-size .size in
     omega (arith, t .taken, z .ensures)
 
 loop-again-3 : tie.Need-loop-again-3 Inv-loop μ-loop
 loop-again-3 c =
-    let a = c .before .before .before .before .before .before .before .before .before .before .before .before .before .before .before .before .before .before .before .before .before .before .before .before .before .before .before .before .before .before .before .args in
-    let p = c .before .before .before .before .before .before .before .before .before .before .before .before .before .before .before .before .before .before .before .before .before .before .before .before .before .before .before .before .before .before .before .pre in
-    let l = c .before .before .before .before .before .before .before .before .before .before .before .before .before .before .before .before .before .before .before .before .before .before .before .before .before .before .loop in
-    let t = c .before .before .before .before .before .before .before .before .before .before .before .before .before .before .before .before .before .before .before .before .before .before .before .before .before .loop-test in
-    let r = c .before .before .before .before .before .before .before .before .before .before .before .before .before .before .before .before .before .before .before .before .before .before .before .look-at in
-    let q = c .before .before .before .before .before .before .before .before .before .before .before .before .before .before .before .before .before .before .before .before .before .r in
-    let z = c .before .before .before .before .before .before .before .before .before .before .before .before .before .before .before .before .before .before .before .size in
-    let m = c .before .before .before .before .before .before .before .before .before .before .before .before .before .before .move-cached in
-    let s = c .before .before .before .before .before .before .before .before .before .before .enum-told3 in
-    let o = c .before .before .before .before .before .before .before .migrate-one in
-    let b = c .before .before .before .before .if1 in
+    let at-if1 = c .before .before .before .before in
+    let at-migrate-one = at-if1 .before .before .before in
+    let at-enum-told3 = at-migrate-one .before .before .before in
+    let at-move-cached = at-enum-told3 .before .before .before .before in
+    let at-size = at-move-cached .before .before .before .before .before in
+    let at-r = at-size .before .before in
+    let at-look-at = at-r .before .before in
+    let at-loop-test = at-look-at .before .before in
+    let at-loop = at-loop-test .before in
+    let at-start = at-loop .before .before .before .before .before in
+    let a = at-start .args in
+    let p = at-start .pre in
+    let l = at-loop .loop in
+    let t = at-loop-test .loop-test in
+    let r = at-look-at .look-at in
+    let q = at-r .r in
+    let z = at-size .size in
+    let m = at-move-cached .move-cached in
+    let s = at-enum-told3 .enum-told3 in
+    let o = at-migrate-one .migrate-one in
+    let b = at-if1 .if1 in
     let f = rw (q .given .1) at (r .ensures .1) in
     let i = l .inv in
     let n = m .ensures .ask (s .given .1) in
-    let I = item-one (a .g) (a .slots) (l .img) (memOf (l .keys) (l .places) (a .mem .erased)) (l .at) (a .e) (q .given .0 .0) (l .wp) _ _ _ _ (sym (n .3)) (rw (n .0, n .1, n .2, n .5) at (o .ensures)) in
+    let I = item-one (a .g) (a .slots) (l .img) (memOf (l .keys) (l .places) (a .mem .erased)) (l .at) (a .e)
+    (q .given .0 .0) (l .wp) _ _ _ _ (sym (n .3)) (rw (n .0, n .1, n .2, n .5) at (o .ensures)) in
     let A = I .around in
     let k = o .ok .1 .1 .0 .1 .1 .0 .1 .1 in
     let e = z .ensures .0 in (
@@ -217,7 +288,10 @@ loop-again-3 c =
       omega (arith, i .3, A .high, f .0, e),
       omega (arith, o .kept, m .kept, i .4),
       kept-trans _ _ _ _ (i .5) (kept-apart _ _ _ (A .kept)),
-      rw e (thr-to (a .g) (thr-then (a .g) (i .6) (run-on (a .g) (a .slots) (l .img) (memOf (l .keys) (l .places) (a .mem .erased)) (l .at) (a .e) (l .wp) (omega (arith, p .0 .low)) (omega (arith, p .4, l .inv .4)) (r .result) (t .taken) (r .ensures .0) (q .given .0 .0) (q .given .1) _ _ _ _ I (b .taken))) (sym (run-apart _ _ _ _ _ _ _ _ (A .kept)))),
+      rw e (thr-to (a .g) (thr-then (a .g) (i .6)
+          (run-on (a .g) (a .slots) (l .img) (memOf (l .keys) (l .places) (a .mem .erased)) (l .at) (a .e) (l .wp)
+          (omega (arith, p .0 .low)) (omega (arith, p .4, l .inv .4)) (r .result) (t .taken) (r .ensures .0)
+          (q .given .0 .0) (q .given .1) _ _ _ _ I (b .taken))) (sym (run-apart _ _ _ _ _ _ _ _ (A .kept)))),
       rw e (lies-item (a .g) (length (a .img .now)) (p .0) (l .at) (a .e) (i .7) (q .given .0 .0)),
       length-unmapped ℕ (o .result .mem .cache .keys) 32 (k .0 .1 .0 .1),
       length-unmapped ℕ (o .result .mem .cache .places) 32 (k .1 .0 .1 .0 .1),
@@ -225,49 +299,69 @@ loop-again-3 c =
 
 same-length-2 : tie.Need-same-length-2 Inv-loop μ-loop
 same-length-2 c =
-    let a = c .before .before .before .before .before .before .before .before .before .before .before .before .before .before .before .before .before .before .before .before .before .before .before .before .before .before .before .args in
-    let p = c .before .before .before .before .before .before .before .before .before .before .before .before .before .before .before .before .before .before .before .before .before .before .before .before .before .before .before .pre in
-    let l = c .before .before .before .before .before .before .before .before .before .before .before .before .before .before .before .before .before .before .before .before .before .before .loop in
-    let m = c .before .before .before .before .before .before .before .before .before .before .move-cached in
-    let o = c .before .before .before .migrate-one in
+    let at-migrate-one = c .before .before .before in
+    let at-move-cached = at-migrate-one .before .before .before .before .before .before .before in
+    let at-loop =
+    at-move-cached .before .before .before .before .before .before .before .before .before .before .before .before in
+    let at-start = at-loop .before .before .before .before .before in
+    let a = at-start .args in
+    let p = at-start .pre in
+    let l = at-loop .loop in
+    let m = at-move-cached .move-cached in
+    let o = at-migrate-one .migrate-one in
     omega (arith, o .kept, m .kept, l .inv .4)
 
 returns-2 : tie.Need-returns-2 Inv-loop μ-loop
 returns-2 c =
-    let a = c .before .before .before .before .before .before .before .before .before .before .before .before .before .before .before .before .before .before .before .before .before .before .before .before .before .before .before .args in
-    let p = c .before .before .before .before .before .before .before .before .before .before .before .before .before .before .before .before .before .before .before .before .before .before .before .before .before .before .before .pre in
-    let l = c .before .before .before .before .before .before .before .before .before .before .before .before .before .before .before .before .before .before .before .before .before .before .loop in
-    let t = c .before .before .before .before .before .before .before .before .before .before .before .before .before .before .before .before .before .before .before .before .before .loop-test in
-    let r = c .before .before .before .before .before .before .before .before .before .before .before .before .before .before .before .before .before .before .before .look-at in
-    let q = c .before .before .before .before .before .before .before .before .before .before .before .before .before .before .before .before .before .r in
-    let m = c .before .before .before .before .before .before .before .before .before .before .move-cached in
-    let s = c .before .before .before .before .before .before .enum-told3 in
-    let o = c .before .before .before .migrate-one in
+    let at-migrate-one = c .before .before .before in
+    let at-enum-told3 = at-migrate-one .before .before .before in
+    let at-move-cached = at-enum-told3 .before .before .before .before in
+    let at-r = at-move-cached .before .before .before .before .before .before .before in
+    let at-look-at = at-r .before .before in
+    let at-loop-test = at-look-at .before .before in
+    let at-loop = at-loop-test .before in
+    let at-start = at-loop .before .before .before .before .before in
+    let a = at-start .args in
+    let p = at-start .pre in
+    let l = at-loop .loop in
+    let t = at-loop-test .loop-test in
+    let r = at-look-at .look-at in
+    let q = at-r .r in
+    let m = at-move-cached .move-cached in
+    let s = at-enum-told3 .enum-told3 in
+    let o = at-migrate-one .migrate-one in
     let b = c .if1 in
     let i = l .inv in
     let n = m .ensures .ask (s .given .1) in
-    let I = item-one (a .g) (a .slots) (l .img) (memOf (l .keys) (l .places) (a .mem .erased)) (l .at) (a .e) (q .given .0 .0) (l .wp) _ _ _ _ (sym (n .3)) (rw (n .0, n .1, n .2, n .5) at (o .ensures)) in
+    let I = item-one (a .g) (a .slots) (l .img) (memOf (l .keys) (l .places) (a .mem .erased)) (l .at) (a .e)
+    (q .given .0 .0) (l .wp) _ _ _ _ (sym (n .3)) (rw (n .0, n .1, n .2, n .5) at (o .ensures)) in
     record {
-      run = rw (b .left) (thr-then (a .g) (i .6) (run-bad (a .g) (a .slots) (l .img) (memOf (l .keys) (l .places) (a .mem .erased)) (l .at) (a .e) (l .wp) (omega (arith, p .0 .low)) (omega (arith, p .4, l .inv .4)) (r .result) (t .taken) (r .ensures .0) (q .given .0 .0) (q .given .1) _ _ _ _ I (b .left)));
+      run = rw (b .left) (thr-then (a .g) (i .6)
+          (run-bad (a .g) (a .slots) (l .img) (memOf (l .keys) (l .places) (a .mem .erased)) (l .at) (a .e) (l .wp)
+          (omega (arith, p .0 .low)) (omega (arith, p .4, l .inv .4)) (r .result) (t .taken) (r .ensures .0)
+          (q .given .0 .0) (q .given .1) _ _ _ _ I (b .left)));
       kept = kept-trans _ _ _ _ (i .5) (I .around .kept);
     }
 
 returns-3 : tie.Need-returns-3 Inv-loop μ-loop
 returns-3 c =
-    let a = c .before .before .before .before .before .before .before .args in
-    let p = c .before .before .before .before .before .before .before .pre in
-    let l = c .before .before .loop in
+    let at-loop = c .before .before in
+    let at-start = at-loop .before .before .before .before .before in
+    let a = at-start .args in
+    let p = at-start .pre in
+    let l = at-loop .loop in
     let t = c .before .loop-test in
     let m = c .all-moved2 in
     rw (m .ensures) (record {
-      run = thr-to (a .g) (l .inv .6) (run-none (a .g) (a .slots) (l .img) (memOf (l .keys) (l .places) (a .mem .erased)) (l .at) (a .e) (l .wp) (omega (arith, p .0 .low)) (omega (arith, p .4, l .inv .4)) (t .left));
+      run = thr-to (a .g) (l .inv .6)
+          (run-none (a .g) (a .slots) (l .img) (memOf (l .keys) (l .places) (a .mem .erased)) (l .at) (a .e) (l .wp)
+          (omega (arith, p .0 .low)) (omega (arith, p .4, l .inv .4)) (t .left));
       kept = l .inv .5;
     })
 
 pub migrate-all-spec : {M : Type 1} → statement M
 migrate-all-spec =
-    tie.close (tie.spec
-    Inv-loop μ-loop loop-holds (λ c κs. search needs) (λ c. search needs) (λ c κs. search needs) (λ c. search needs) returns (λ c. search needs)
-    add-at loop-less loop-again (λ c. search needs) size-requires add-next move-cached-requires (λ c. search needs) loop-less-2 loop-again-2
-    (λ c. search needs) migrate-one-requires loop-less-3 loop-again-3 same-length-2 returns-2 (λ c κs. search needs) (λ c. search needs)
-    returns-3)
+    tie.close (tie.spec Inv-loop μ-loop loop-holds (λ c κs. search needs) (λ c. search needs) (λ c κs. search needs)
+    (λ c. search needs) returns (λ c. search needs) add-at loop-less loop-again (λ c. search needs) size-requires
+    add-next move-cached-requires (λ c. search needs) loop-less-2 loop-again-2 (λ c. search needs) migrate-one-requires
+    loop-less-3 loop-again-3 same-length-2 returns-2 (λ c κs. search needs) (λ c. search needs) returns-3)

@@ -7,8 +7,9 @@ use Rattle.words.proofs.erase.Tie as tie
 
 returns : tie.Need-returns
 returns c =
-    let at-blank = c .before .before .before in
-    rw (lasts-le _ _ (at-blank .before .before .if1 .taken)) (at-blank .blank-bytes .ensures, c .spend .ensures)
+    let at-blank-bytes = c .before .before .before in
+    let at-if1 = at-blank-bytes .before .before in
+    rw (lasts-le _ _ (at-if1 .if1 .taken)) (at-blank-bytes .blank-bytes .ensures, c .spend .ensures)
 
 returns-2 : tie.Need-returns-2
 returns-2 c = erase-none _ _ _ (c .if1 .left)

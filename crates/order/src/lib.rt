@@ -1,0 +1,1 @@
+// Theorems on the order of the code's writes; no code.
