@@ -64,7 +64,7 @@ spend-dead p n = go (leb endless p)
     go false h = omega (arith, leb-false n p h)
 
 -- m units and then n
-pub spend-add : (p m n : ℕ) → spend p (m + n) ≡ spend (spend p m) n
+spend-add : (p m n : ℕ) → spend p (m + n) ≡ spend (spend p m) n
 spend-add p m n = go (leb endless p) refl
   where
     go : (b : Bool) → leb endless p ≡ b → spend p (m + n) ≡ spend (spend p m) n
@@ -104,7 +104,7 @@ taken-all p bs = go (leb endless p)
     go true h = refl
     go false h = take-all p bs (leb-true (length bs) p h)
 
-pub taken-short : (p : ℕ) (bs : List ℕ) → length (taken p bs) ≤ length bs
+taken-short : (p : ℕ) (bs : List ℕ) → length (taken p bs) ≤ length bs
 unfolding taken
 taken-short p bs = go (leb endless p)
   where
@@ -128,7 +128,7 @@ take-append (suc p) (x ∷ xs) ys =
     let z : suc p - suc (length xs) ≡ p - length xs = omega arith in
     rw (z, take-append p xs ys)
 
-pub program-taken : (l : List ℕ) (a p : ℕ) (xs ys : List ℕ) → a + (length xs + length ys) ≤ length l
+program-taken : (l : List ℕ) (a p : ℕ) (xs ys : List ℕ) → a + (length xs + length ys) ≤ length l
     → program l a (taken p (xs ++ ys))
     ≡ program (program l a (taken p xs)) (a + length xs) (taken (spend p (length xs)) ys)
 unfolding taken spend
@@ -209,7 +209,7 @@ pub record Blanked (G : Geo) (l : List ℕ) (p : ℕ) (l′ : List ℕ) (p′ q 
 
 -- ---- steps
 
-pub units-append : (xs ys : List FlashStep) → units (xs ++ ys) ≡ units xs + units ys
+units-append : (xs ys : List FlashStep) → units (xs ++ ys) ≡ units xs + units ys
 units-append [] ys = omega arith
 units-append (x ∷ xs) ys = rw (units-append xs ys) (omega arith)
 

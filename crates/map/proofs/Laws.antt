@@ -16,7 +16,7 @@ use Rattle.rules.specs.Pages.{dataAt, isPage, anyCorrupted}
 use Rattle.rules.specs.Runs.{St, Out, out, after, on, onDone, End, end, final, cleared, clearCorrupted}
 use Rattle.rules.specs.Store.{repair, looked, autoRepair}
 use Rattle.rules.specs.Walk.{Step, ended, stepped, walkFirst, runStart, walkStart}
-use Rattle.rules.specs.Calls.{Lent, Told as Handed, noCursor, stepAnswer, stepCursor, geoOf, tell, behind, stepsBehind}
+use Rattle.rules.specs.Calls.{Told as Handed, noCursor, stepAnswer, stepCursor, geoOf, tell, behind, stepsBehind}
 use Rattle.rules.specs.Calls.{Cut}
 use Rattle.laws.specs.Geometry.{fits}
 use Rattle.cache.specs.declared.{Cache.Cache}

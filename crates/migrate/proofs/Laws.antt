@@ -9,6 +9,7 @@ use lib.ListN.{length, take, drop, length-append, length-drop}
 use lib.Seq.{length-take-le}
 use borrow.Author.Tests.{ne-eqb, eq-eqb}
 use Rattle.rules.specs.declared.{Geo.Geo, Answer.the-variants.Done, Answer.the-variants.Corrupted}
+use Rattle.rules.specs.Held.{Held}
 use Rattle.rules.specs.Bytes.{pick, allFF}
 use Rattle.rules.specs.Items.{itemOf, isPresent, Entry, size, pad, presents, Scan, scan, read}
 use Rattle.rules.specs.Pages.{blankAt, dataAt, endAt, itemsOf}
@@ -283,9 +284,9 @@ far a at e to wp z h₁ h₂ h₃ h₄ d =
 
 -- ---- a migration
 
-module _ (G : Geo) (n : ℕ) (img img₁ : List ℕ) (p p₁ : ℕ) (mem : Mem) (r : Moved) (src tgt a e to : ℕ)
-    (ha : a ≡ dataAt G src) (he : e ≡ endAt G src) (ht : to ≡ dataAt G tgt) (room : 2 * G .word ≤ G .page)
-    (run : Through G (runOf G n img mem a e to) img p img₁ p₁ (endOf r (stOf n img₁ (r .mem)))) where
+module _ (G : Geo) (n : ℕ) (img img₁ : List ℕ) (p p₁ : ℕ) (mem : Mem) (r : Moved) (src tgt a e to len : ℕ)
+    (run : Through G (runOf G n img mem a e to) img p img₁ p₁ (endOf r (stOf n img₁ (r .mem))))
+    (ha : a ≡ dataAt G src) (he : e ≡ endAt G src) (ht : to ≡ dataAt G tgt) (ok : Held G len) where
   abbrev moves : Out
   moves = migrateAll G (itemsOf G img src) (dataAt G tgt) (stOf n img mem)
 
@@ -293,7 +294,9 @@ module _ (G : Geo) (n : ℕ) (img img₁ : List ℕ) (p p₁ : ℕ) (mem : Mem) 
   wipe s = erasing G src s (out Done)
 
   all-is : Through G moves img p img₁ p₁ (endOf r (stOf n img₁ (r .mem)))
-  all-is = thr-from G (rw (scan-is G img src room, ← ha, ← he, ← ht)) run
+  all-is =
+      let room : 2 * G .word ≤ G .page = omega (arith, ok) in
+      thr-from G (rw (scan-is G img src room, ← ha, ← he, ← ht)) run
 
   pub migrate-bad : r .ok ≡ false
       → Through G (migrate G src tgt (stOf n img mem)) img p img₁ p₁ (out Corrupted (stOf n img₁ (r .mem)))

@@ -5,12 +5,11 @@ use mathlib.Core.Path.{_≡_, refl, sym, ap, _∙_}
 use mathlib.Core.Logic.{_≢_}
 use Prim.Native.Nat.{ℕ, suc, _+_, _≤_, _<_}
 use mathlib.Core.List.{List, [], _∷_, _++_}
-use mathlib.Core.Bool.{Bool, true, false}
-use lib.ListN.{length, getD, set, take, replicate, length-set}
+use mathlib.Core.Bool.{true}
+use lib.ListN.{length, getD, set, replicate, length-set}
 use lib.Seq.{getD-set-other, set-comm}
 use lib.Bits.{bitAnd}
 use native.Mathlib.Omega.{arith}
-use borrow.Author.Tests.{lt-leb}
 use Rattle.rules.specs.declared.{Geo.Geo, Answer.Answer, Answer.the-variants.Done}
 use Rattle.rules.specs.Bytes.{FlashStep, programs, erases, program, erase, splice, roundUp, zerosIn, zeroBits}
 use Rattle.rules.specs.Items.{readBy, read, size, pad, encode, encodeData, scan}
@@ -24,6 +23,7 @@ use Rattle.rules.specs.Remove.{only, removeEntries, removePages, runRemove}
 use Rattle.laws.specs.Programs.{program-nil, program-cons, program-append}
 use Rattle.laws.specs.Power.{Wrote, Blanked, taken-none, cut-first}
 use Rattle.laws.specs.Through.{Through, thr-cut}
+use Rattle.cache.specs.Code.{pointers}
 use Rattle.fetch.specs.declared.{Mem.Mem}
 use Rattle.fetch.specs.Code.{stOf}
 use Rattle.store.specs.Code.{rollOf}
@@ -125,7 +125,7 @@ source = replicate 4 0 ++ (encode 4 7 [] ++ (replicate 8 0 ++ replicate 36 255))
 pub erase-before-copy : (mem : Mem) (l₁ l₂ : List ℕ) (p₁ p₂ : ℕ) (a : Answer) (s : St) → Blanked three source 1 l₁ p₁ 0
     → l₂ ≡ l₁
     → Through three (migrate three 0 1 (stOf 0 source mem)) source 1 l₂ p₂ (out a s) → ⊥
-unfolding program erase splice encode encodeData pad roundUp zerosIn zeroBits readBy read size scan state scanOf ringUp ringDown newest hit fetchIn note on migrateAll migrate
+unfolding program erase splice encode encodeData pad roundUp zerosIn zeroBits readBy read size scan state scanOf ringUp ringDown newest hit fetchIn note pointers on migrateAll migrate
 erase-before-copy mem l₁ l₂ p₁ p₂ a s d e t =
     let first = blanked-one three source l₁ p₁ 0 d in
     let must = first-byte three (migrate three 0 1 (stOf 0 source mem)) source l₂ p₂ a s 24 4 0

@@ -30,7 +30,7 @@ use Rattle.theory.specs.Latest.{listOf}
 use Rattle.theory.specs.Kept.{AnswerIn}
 use Rattle.promises.specs.Promise.{Given, AllGiven, fresh, seen, refusalOf, refused, FullRule, Single, Follows, WalkRight, StepRight}
 use Rattle.promises.specs.Singles.{single-after, latest-single}
-use Rattle.promises.specs.Behind.{called-refused, called-runs, size-kept, steps-play, image-length, answer-in, erased-in}
+use Rattle.promises.specs.Behind.{called-refused, size-kept, steps-play, image-length, answer-in, erased-in}
 use Rattle.promises.specs.Answers.{step-right}
 use Rattle.promises.specs.AnyLent.{all-kept}
 use Rattle.promises.specs.Sequences.{follows, same-seen, begins}

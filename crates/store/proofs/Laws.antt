@@ -19,7 +19,7 @@ use Rattle.rules.specs.Answers.{isNo}
 use Rattle.rules.specs.Runs.{St, Out, out, onDone, noting}
 use Rattle.rules.specs.Store.{migrate, rolled, rollover, turn, turns}
 use Rattle.laws.specs.Power.{Wrote}
-use Rattle.laws.specs.Through.{Through, thr-refl, thr-from, thr-to, thr-then, thr-program, thr-on}
+use Rattle.laws.specs.Through.{Through, thr-from, thr-to, thr-then, thr-program, thr-on}
 use Rattle.cache.specs.Code.{pointers, Past}
 use Rattle.fetch.specs.declared.{Mem.Mem}
 use Rattle.fetch.specs.Code.{stOf, Kept}

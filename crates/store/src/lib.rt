@@ -1,5 +1,4 @@
 // Store: rollover, one turn, at most n turns.
-ghost use mathlib.Core.Path.{_≡_};
 ghost use Prim.Native.Nat.{_+_, _^_, _≤_, _<_};
 ghost use lib.ListN.{length};
 ghost use Rattle.rules.specs.Held.{Held};

@@ -3,14 +3,13 @@ use mathlib.Core.Path.{_≡_, refl, sym, ap, _∙_}
 use Prim.Native.Nat.{ℕ, zero, suc, _+_, _-_, _%_, _≤_, _<_}
 use native.Mathlib.Omega.{arith}
 use native.Mathlib.Numerals.{add-one}
-use native.Mathlib.Nat.{zero-add, add-mod, zero-mod, mod-self}
+use native.Mathlib.Nat.{add-mod, zero-mod, mod-self}
 use mathlib.Core.Bool.{Bool, true, false}
 use lib.Dec.{ltb}
 use borrow.Author.Tests.{ltb-true, ltb-false}
 use mathlib.Core.Logic.{_⊎_, ⊎-elim, inl, inr}
 use mathlib.Core.List.{List, [], _∷_, _++_}
 use lib.ListN.{length, getD, set, take, drop, replicate, length-append, length-replicate, length-drop, length-take}
-use lib.ListN.{take-append-drop, drop-of-length-le}
 use lib.Seq.{drop-cons, drop-drop, take-append-le, drop-append-le, length-take-le, take-suc, take-take, set-at}
 use lib.Seq.{append-snoc, getD-drop}
 use Rattle.laws.specs.Splice.{take-over, window-replicate, drop-take}
@@ -186,24 +185,24 @@ zeros-more : (xs ys : List ℕ) → zeros (xs ++ ys) ≡ zeros xs + zeros ys
 zeros-more [] ys = omega arith
 zeros-more (x ∷ xs) ys = omega (arith, zeros-more xs ys)
 
-item-is : (w k C : ℕ) (v : List ℕ) → C ≡ zeros (toLe 4 k) + zeros v + 1
-    → headOf (4 + length v) C ++ dataBytes w k v ≡ encode w k v
+item-is : (w k x y : ℕ) (v : List ℕ) → x ≡ zeros (toLe 4 k) → y ≡ zeros v
+    → headOf (4 + length v) (x + y + 1) ++ dataBytes w k v ≡ encode w k v
 unfolding encode encodeData dataBytes
-item-is w k C v hC =
+item-is w k x y v hx hy =
     let l : length (toLe 4 k ++ v) ≡ 4 + length v = omega arith in
-    let c : checkOf (toLe 4 k ++ v) ≡ C = omega (arith, zeros-more (toLe 4 k) v) in
+    let c : checkOf (toLe 4 k ++ v) ≡ x + y + 1 = omega (arith, zeros-more (toLe 4 k) v) in
     rw (l, c)
 
-pub item-written : (l l₁ l₂ : List ℕ) (p p₁ p₂ at w k C : ℕ) (H v : List ℕ) → 4 ≤ w → w ≤ 8
-    → at + size w (4 + length v) ≤ length l
-    → C ≡ zeros (toLe 4 k) + zeros v + 1 → H ≡ headOf (4 + length v) C → Wrote l p l₁ p₁ at H
-    → Wrote l₁ p₁ l₂ p₂ (at + 8) (dataBytes w k v)
+-- the header, and then the data behind it
+pub item-written : (l l₁ l₂ : List ℕ) (p p₁ p₂ at w k x y : ℕ) (H v : List ℕ)
+    → Wrote l p l₁ p₁ at H → Wrote l₁ p₁ l₂ p₂ (at + 8) (dataBytes w k v)
+    → H ≡ headOf (4 + length v) (x + y + 1) → x ≡ zeros (toLe 4 k) → y ≡ zeros v
+    → 4 ≤ w → w ≤ 8 → at + size w (4 + length v) ≤ length l
     → Wrote l p l₂ p₂ at (encode w k v)
-item-written l l₁ l₂ p p₁ p₂ at w k C H v hw h8 room hC hH e₁ e₂ =
+item-written l l₁ l₂ p p₁ p₂ at w k x y H v e₁ e₂ hH hx hy hw h8 room =
     let sd = size-data w k v hw h8 in
     let lH : length H ≡ 8 = ap length hH in
-    let q : headOf (4 + length v) C ++ dataBytes w k v ≡ encode w k v = item-is w k C v hC in
-    let r : H ++ dataBytes w k v ≡ encode w k v = ap (λ (x : List ℕ). x ++ dataBytes w k v) hH ∙ q in
+    let r : H ++ dataBytes w k v ≡ encode w k v = ap (λ (z : List ℕ). z ++ dataBytes w k v) hH ∙ item-is w k x y v hx hy in
     rw (← r) (wrote-append l l₁ l₂ p p₁ p₂ at (at + 8) H (dataBytes w k v) e₁ e₂ (omega arith) (omega arith))
 
 -- ---- copies

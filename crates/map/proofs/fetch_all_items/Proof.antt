@@ -1,5 +1,5 @@
+-- `map::fetch_all_items` meets its contract: it is refused, or the walk starts, with endless power.
 use Rattle.laws.specs.Through.{thr-endless}
--- `map::fetch_all_items` meets its contract: it is refused, or the walk starts.
 use mathlib.Core.Path.{_≡_, ap, sym, subst, _∙_, refl}
 use lib.ListN.{length}
 use Rattle.rules.specs.Held.{Held}

@@ -1,10 +1,11 @@
+-- `mend::erase_corrupted` meets its contract. Invariant: the run over all pages has come through to the run over the pages from p on.
 use Rattle.laws.specs.Through.{Through, thr-refl, thr-to, thr-then}
 use Rattle.mend.proofs.Laws.{pages-on, pages-end}
 use Rattle.fetch.specs.Code.{stOf}
 use Rattle.rules.specs.Pages.{upFrom, allPages}
 use Rattle.rules.specs.Runs.{St, Out}
 use Rattle.rules.specs.Store.{eraseCorrupted}
-use mathlib.Core.Path.{_≡_, refl, sym, _∙_}
+use mathlib.Core.Path.{_≡_, refl, _∙_}
 use Prim.Native.Nat.{ℕ, _+_, _-_, _≤_}
 use native.Mathlib.Nat.{sub-zero}
 use native.Mathlib.Omega.{arith}

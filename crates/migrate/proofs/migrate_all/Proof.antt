@@ -1,12 +1,13 @@
+-- `migrate::migrate_all` meets its contract. Invariant: the run over all items has come through to the run over the items from `at` on, which
+-- writes at `wp`; the cache is its two arrays.
 use Rattle.laws.specs.Through.{Through, thr-refl, thr-to, thr-then}
--- `migrate::migrate_all` meets its contract: in each turn the run from here is the run from the start.
 use Rattle.migrate.proofs.Laws.{item-one, run-none, run-end, run-skip, run-bad, run-on, far}
 use Rattle.migrate.proofs.Cached.{lies-skip, lies-item, kept-apart, run-apart}
 use Rattle.migrate.specs.Code.{Lies, memOf, runOf}
 use Rattle.fetch.specs.Code.{Kept}
 use Rattle.fetch.proofs.Laws.{kept-refl, kept-trans, held-len}
 use Rattle.rules.specs.Items.{size}
-use mathlib.Core.Path.{_≡_, refl, sym, _∙_}
+use mathlib.Core.Path.{_≡_, refl, sym}
 use Prim.Native.Nat.{ℕ, _+_, _-_, _≤_}
 use native.Mathlib.Omega.{arith}
 use lib.ListN.{length}

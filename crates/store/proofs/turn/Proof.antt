@@ -1,3 +1,4 @@
+-- `store::turn` meets its contract: a case for each of the definition's four.
 use Rattle.laws.specs.Through.{thr-refl, thr-program}
 use Rattle.fetch.specs.Code.{stOf}
 use Rattle.rules.specs.Runs.{out}

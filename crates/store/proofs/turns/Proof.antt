@@ -1,3 +1,4 @@
+-- `store::turns` meets its contract. Invariant: the n turns have come through to the t turns that are left.
 use Rattle.laws.specs.Through.{Through, thr-refl, thr-to, thr-then}
 use Rattle.store.proofs.Laws.{turns-on, turns-done, turns-none}
 use Rattle.fetch.proofs.Laws.{past-refl, past-trans}

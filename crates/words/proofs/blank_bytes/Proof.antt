@@ -1,3 +1,4 @@
+-- `words::blank_bytes` meets its contract. Invariant: what is left to blank gives the whole from here.
 use Rattle.words.proofs.Laws.{fill-step, fill-end}
 use Rattle.rules.specs.Bytes.{splice}
 use mathlib.Core.Path.{_≡_, sym, _∙_, refl}

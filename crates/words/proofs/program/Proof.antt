@@ -1,4 +1,4 @@
-use lib.ListN.{length}
+-- `words::program` meets its contract: the bytes that the power allows, and it pays for them.
 use mathlib.Core.Path.{sym}
 use Rattle.words.proofs.Laws.{wrote-some}
 use native.Mathlib.Omega.{arith}

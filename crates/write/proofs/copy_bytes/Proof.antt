@@ -1,9 +1,9 @@
+-- `write::copy_bytes` meets its contract. Invariant: the first i bytes are written, and the source is as it was.
 use Rattle.write.proofs.Laws.{block-left, block-source}
 use Rattle.laws.specs.Power.{Wrote, wrote-none, wrote-all}
 use native.Mathlib.Omega.{arith}
-use native.Mathlib.Nat.{add-zero}
-use mathlib.Core.Path.{_≡_, refl, sym, _∙_}
-use Prim.Native.Nat.{_+_, _-_, _≤_}
+use mathlib.Core.Path.{_≡_, refl}
+use Prim.Native.Nat.{_-_, _≤_}
 use lib.ListN.{length, take, drop, length-drop}
 use lib.Seq.{length-take-le}
 use borrow.Author.Needs.{needs}

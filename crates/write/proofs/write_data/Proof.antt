@@ -1,10 +1,11 @@
+-- `write::write_data` meets its contract. Invariant: the first i data bytes are written, whole words.
 use Rattle.write.proofs.Laws.{length-on, length-lt, all-in}
 use Rattle.write.specs.Code.{dataBytes}
 use Rattle.laws.specs.Power.{Wrote, wrote-none, wrote-more, wrote-all}
-use mathlib.Core.Path.{_≡_, refl, sym, _∙_}
+use mathlib.Core.Path.{_≡_, refl}
 use Prim.Native.Nat.{_+_, _-_, _%_, _≤_}
-use native.Mathlib.Nat.{add-zero, zero-mod}
-use lib.ListN.{length, take, drop}
+use native.Mathlib.Nat.{zero-mod}
+use lib.ListN.{length, take}
 use borrow.Author.Needs.{needs}
 use native.Mathlib.Omega.{arith}
 use Rattle.write.proofs.write_data.Statement.{statement}
