@@ -1,4 +1,5 @@
--- A fetch that changes nothing: refused, served by the lent cache, or without a cache on an image that is not corrupted.
+-- A fetch that changes nothing: refused, served by the lent cache, or without a cache on an image that is not
+-- corrupted.
 use mathlib.Core.Path.{_≡_, refl, ap, sym, _∙_}
 use mathlib.Core.Logic.{_≢_, _⊎_, ⊎-elim, inl, inr}
 use Prim.Native.Nat.{ℕ, _+_, _-_, _≤_, _<_}
@@ -13,6 +14,7 @@ use Rattle.rules.specs.Bytes.{pick}
 use Rattle.rules.specs.Cache.{Cache as Entries, lookup, note}
 use Rattle.rules.specs.Answers.{number, isNo, refusal}
 use Rattle.rules.specs.Runs.{out, on}
+use Rattle.rules.specs.Power.{endless}
 use Rattle.laws.specs.Through.{thr-endless}
 use Rattle.rules.specs.Fetch.{Found, corrupt, missing, found, answerOf, noteFound, newest, hit, fetchIn, runFetch}
 use Rattle.rules.specs.Fetch.{plainFetch}
@@ -102,7 +104,7 @@ module _ (E m k : ℕ) (img ws : List ℕ) (no : Answer) (d : ℕ) (hno : no ≡
       let mem : Mem = record { cache = lentCache ws; erased = 0 } in
       let s = served-hit G img (pointers m (lentCache ws)) (Fetch k) k refl a ha (At p l) n q in
       let R = call-served G m 0 (Fetch k) [] img 18446744073709551615 mem p l s in
-      let e = thr-endless G _ img img 18446744073709551615 18446744073709551615 _ _ (omega arith) (R .is) in
+      let e = thr-endless G _ img img endless _ _ (R .is) in
       let t = ran E m 0 img no d hno hd (λ G s. fetch G k s) (λ G o. noCursor) noCursor z (lentCache ws) G g img
       (record { mem = mem; answer = Value (p + 12) (l - 4) }) e (R .past) noCursor refl in
       record { is = λ x. rw (lent-is ws h) at t }

@@ -161,8 +161,8 @@ pub record CutLeft : Type 0 where
 abbrev pub stepsAt : ℕ → ℕ → Call → List ℕ → List ℕ → List FlashStep
 stepsAt E m call i c = stepsOf 4 E m call (record { image = i; cache = entriesOf c })
 
--- 255 where a length is wrong, and nothing changes; else the image is what the call's flash steps leave with the power, so much of it is left,
--- and where it lasts for all of them the call is as it is without it
+-- 255 where a length is wrong, and nothing changes; else the image is what the call's flash steps leave with the power,
+-- so much of it is left, and where it lasts for all of them the call is as it is without it
 pub record CutBorder (E m : ℕ) (call : Call) (i c p o : List ℕ) (l : CutLeft) : Type 0 where
   pub wrong : cutLengths (length c) (length p) (length o) ≡ false
       → l ≡ record { no = 255; image = i; cache = c; power = p; out = o }

@@ -1,5 +1,6 @@
--- Power: bytes and flash steps while the power lasts. What is programmed in pieces is programmed as a whole, with every power
--- (wrote-append); steps in two stretches are the steps of both (cut-append); without power nothing changes (cut-none).
+-- Power: bytes and flash steps while the power lasts. What is programmed in pieces is programmed as a whole, with every
+-- power (wrote-append); steps in two stretches are the steps of both (cut-append); without power nothing changes
+-- (cut-none).
 use mathlib.Core.Path.{_≡_, refl, sym, ap, _∙_, subst}
 use mathlib.Core.Logic.{_⊎_, inl, inr, ⊎-elim}
 use Prim.Native.Nat.{ℕ, zero, suc, _+_, _-_, _≤_, _<_}

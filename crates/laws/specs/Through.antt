@@ -1,6 +1,7 @@
--- Runs while the power lasts. `Through o img p img′ p′ rest`: the run o from an image and a power has come to img′ and p′, and rest is what is
--- still to be run; or the power ran out, and img′ is the cut image. The rest speaks of the image that is really there, so the next test of
--- the code is the next test of the rest, cut or not; after a cut what follows runs without power and changes nothing.
+-- Runs while the power lasts. `Through o img p img′ p′ rest`: the run o from an image and a power has come to img′ and
+-- p′, and rest is what is still to be run; or the power ran out, and img′ is the cut image. The rest speaks of the
+-- image that is really there, so the next test of the code is the next test of the rest, cut or not; after a cut what
+-- follows runs without power and changes nothing.
 use mathlib.Core.Path.{_≡_, refl, sym, ap, _∙_, subst}
 use Prim.Native.Nat.{ℕ, _+_, _≤_}
 use mathlib.Core.Bool.{Bool, true, false}
@@ -148,6 +149,7 @@ module _ (G : Geo) where
       no q = let z : _≡_ {A = ℕ} 0 1 = cc in absurd (omega arith)
 
   -- with endless power a run ends as it is defined
-  pub thr-endless : (o : Out) (img img′ : List ℕ) (p p′ : ℕ) (a : Answer) (s : St) → endless ≤ p
-      → Through o img p img′ p′ (out a s) → end a s ≡ final o
-  thr-endless o img img′ p p′ a s h t = thr-cut o img img′ p p′ a s t .2 (lasts-endless p (units (o .steps)) h)
+  pub thr-endless : (o : Out) (img img′ : List ℕ) (p′ : ℕ) (a : Answer) (s : St)
+      → Through o img endless img′ p′ (out a s) → end a s ≡ final o
+  thr-endless o img img′ p′ a s t =
+      thr-cut o img img′ endless p′ a s t .2 (lasts-endless endless (units (o .steps)) (omega arith))

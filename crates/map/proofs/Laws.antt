@@ -129,9 +129,9 @@ module _ (E m v : ℕ) (img : List ℕ) (no : Answer) (d : ℕ) (hno : no ≡ re
         }
 
 -- with endless power a call is as it is defined
-pub whole-endless : (E : ℕ) (img : List ℕ) (steps : List FlashStep) (done t : Handed) (p p′ : ℕ)
-    → Cut E img steps done p p′ t → endless ≤ p → t ≡ done
-whole-endless E img steps done t p p′ C h = C .whole (lasts-endless p (units steps) h)
+pub whole-endless : (E : ℕ) (img : List ℕ) (steps : List FlashStep) (done t : Handed) (p′ : ℕ)
+    → Cut E img steps done endless p′ t → t ≡ done
+whole-endless E img steps done t p′ C = C .whole (lasts-endless endless (units steps) (omega arith))
 
 -- a call that reads only takes no cache, and leaves everything
 module _ (E : ℕ) (img : List ℕ) (no : Answer) (d : ℕ) (hno : no ≡ refusal 4 E (length img) 0 0) (hd : d ≡ number no)

@@ -36,7 +36,8 @@ abbrev pub stepOf : Geo → Entry → ℕ → St → (ℕ → St → Out) → Ou
 stepOf G e wp s k = pick (isPresent (e .it .kind)) (oneOf G e wp s k) (k wp s)
 
 -- what a copy leaves
-pub record CopiedOk (G : Geo) (n : ℕ) (img : List ℕ) (p : ℕ) (img′ : List ℕ) (p′ : ℕ) (mem : Mem) (key a L wp : ℕ) (r : Moved) : Type 0 where
+pub record CopiedOk (G : Geo) (n : ℕ) (img : List ℕ) (p : ℕ) (img′ : List ℕ) (p′ : ℕ) (mem : Mem)
+    (key a L wp : ℕ) (r : Moved) : Type 0 where
   pub ok-is : r .ok ≡ blankAt img wp (size (G .word) L)
   pub yes : r .ok ≡ true
       → Wrote img p img′ p′ wp (take (8 + L) (drop a img) ++ pad (G .word) L)
@@ -52,12 +53,14 @@ pub record Around (G : Geo) (n : ℕ) (img img′ : List ℕ) (mem : Mem) (a e L
   pub low : wp ≤ r .to
   pub high : r .to ≤ wp + size (G .word) L
 
-pub record MovedOk (G : Geo) (n : ℕ) (img : List ℕ) (p : ℕ) (img′ : List ℕ) (p′ : ℕ) (mem : Mem) (a e L wp : ℕ) (r : Moved) : Type 0 where
+pub record MovedOk (G : Geo) (n : ℕ) (img : List ℕ) (p : ℕ) (img′ : List ℕ) (p′ : ℕ) (mem : Mem)
+    (a e L wp : ℕ) (r : Moved) : Type 0 where
   pub step : (k : ℕ → St → Out)
       → Through G (oneOf G (entryAt img a e L) wp (stOf n img mem) k) img p img′ p′ (goOn r (stOf n img′ (r .mem)) k)
   pub around : Around G n img img′ mem a e L wp r
 
-pub record ItemOk (G : Geo) (n : ℕ) (img : List ℕ) (p : ℕ) (img′ : List ℕ) (p′ : ℕ) (mem : Mem) (a e L wp : ℕ) (r : Moved) : Type 0 where
+pub record ItemOk (G : Geo) (n : ℕ) (img : List ℕ) (p : ℕ) (img′ : List ℕ) (p′ : ℕ) (mem : Mem) (a e L wp : ℕ)
+    (r : Moved) : Type 0 where
   pub step : (k : ℕ → St → Out)
       → Through G (stepOf G (entryAt img a e L) wp (stOf n img mem) k) img p img′ p′ (goOn r (stOf n img′ (r .mem)) k)
   pub around : Around G n img img′ mem a e L wp r
@@ -76,7 +79,8 @@ abbrev pub memOf : List ℕ → List ℕ → ℕ → Mem
 memOf ks ps n = record { cache = arrays ks ps; erased = n }
 
 -- a step that the cache settles, or that changes nothing and leaves a Present item to the fetch
-pub record StepOk (G : Geo) (n : ℕ) (img : List ℕ) (p : ℕ) (img′ : List ℕ) (p′ : ℕ) (ks ks′ ps ps′ : List ℕ) (a e L wp : ℕ) (s : Step) : Type 0 where
+pub record StepOk (G : Geo) (n : ℕ) (img : List ℕ) (p : ℕ) (img′ : List ℕ) (p′ : ℕ) (ks ks′ ps ps′ : List ℕ)
+    (a e L wp : ℕ) (s : Step) : Type 0 where
   pub to : (t erased : ℕ) → s ≡ To t
       → ItemOk G n img p img′ p′ (memOf ks ps erased) a e L wp
       (record { mem = memOf ks′ ps′ erased; to = t; ok = true })
@@ -92,6 +96,7 @@ endOf r s = pick (r .ok) (out Done s) (out Corrupted s)
 abbrev pub runOf : Geo → ℕ → List ℕ → Mem → ℕ → ℕ → ℕ → Out
 runOf G n img mem a e wp = migrateAll G (presents (scanIn (G .word) img a e .items)) wp (stOf n img mem)
 
-pub record AllOk (G : Geo) (n : ℕ) (img : List ℕ) (p : ℕ) (img′ : List ℕ) (p′ : ℕ) (mem : Mem) (a e wp : ℕ) (r : Moved) : Type 0 where
+pub record AllOk (G : Geo) (n : ℕ) (img : List ℕ) (p : ℕ) (img′ : List ℕ) (p′ : ℕ) (mem : Mem) (a e wp : ℕ)
+    (r : Moved) : Type 0 where
   pub run : Through G (runOf G n img mem a e wp) img p img′ p′ (endOf r (stOf n img′ (r .mem)))
   pub kept : Kept n mem (r .mem)

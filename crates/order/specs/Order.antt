@@ -1,6 +1,7 @@
--- Code that takes its flash steps in another order meets no contract, however it is proved: with power for one unit, the byte that is programmed or
--- the page that is erased tells which step came first, and the rest runs without power and changes nothing. The premises are the
--- contracts of the functions that the wrong code would call first, and the contract that it would have to meet itself.
+-- Code that takes its flash steps in another order meets no contract, however it is proved: with power for one unit,
+-- the byte that is programmed or the page that is erased tells which step came first, and the rest runs without power
+-- and changes nothing. The premises are the contracts of the functions that the wrong code would call first, and the
+-- contract that it would have to meet itself.
 use mathlib.Core.Path.{_≡_, refl, sym, ap, _∙_}
 use mathlib.Core.Logic.{_≢_}
 use Prim.Native.Nat.{ℕ, suc, _+_, _≤_, _<_}
@@ -59,7 +60,8 @@ first-page G o img img′ p′ a s q xs e t =
     thr-cut G o img img′ 1 p′ a s t .0 ∙ ap (cutImage (G .page) img 1) e
     ∙ cut-first (G .page) (erases q) xs img 1 (one-left 0) ∙ rw one-lasts
 
--- a function that programs bytes, or erases a page, has done the same and leaves no power; without power it does nothing
+-- a function that programs bytes, or erases a page, has done the same and leaves no power; without power it does
+-- nothing
 wrote-one : (l l′ : List ℕ) (p′ at b c : ℕ) (bs : List ℕ) → Wrote l 1 l′ p′ at (b ∷ c ∷ bs)
     → (l′ ≡ program l at (b ∷ [])) × (p′ ≡ 0)
 wrote-one l l′ p′ at b c bs w = (w .is ∙ ap (program l at) (one-taken b c bs), w .left ∙ one-left (suc (length bs)))
@@ -151,8 +153,7 @@ higher-page-first n mem l₁ l₂ p₁ p₂ s d e t =
     let byte : _≡_ {A = ℕ} 0 255 = ap (λ (l : List ℕ). getD l 16 1) (sym (first .0) ∙ sym e ∙ must) in
     absurd (omega arith)
 
--- ---- The image alone admits the other order: where nothing is cut, data before header leaves the image that an item does. So a contract on the
--- image that a call leaves can't tell the two, and only the power does.
+-- ---- The image alone admits the other order
 
 before-stays : (l : List ℕ) (a b : ℕ) (ys : List ℕ) → a < b → b + length ys ≤ length l
     → (length (program l b ys) ≡ length l) × (getD (program l b ys) a 0 ≡ getD l a 0)
@@ -188,6 +189,8 @@ program-swap l a (x ∷ xs) b ys h g =
     ∙ program-swap (set l a v) (a + 1) xs b ys (omega arith) (rw length-set (omega arith))
     ∙ sym (ap (λ (z : List ℕ). program z b ys) (program-cons l a x xs (omega arith)))
 
+-- where nothing is cut, data before header leaves the image that an item does: a contract on the image that a call
+-- leaves can't tell the two, and only the power does
 pub image-alone-admits : (l : List ℕ) (at : ℕ) (header body : List ℕ) → at + (length header + length body) ≤ length l
     → program (program l (at + length header) body) at header ≡ program l at (header ++ body)
 image-alone-admits l at header body h =

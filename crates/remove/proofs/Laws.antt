@@ -112,7 +112,8 @@ item-rest true a img img′ p p′ R h j m g =
 item-rest false a img img′ p p′ R h j m g = rw (R .no refl .0)
 
 -- a run over the items from a place on has come to another place, on another image: the loop so far
-pub record EntriesOn (w : ℕ) (t : Wanted) (e : ℕ) (a : ℕ) (img : List ℕ) (p : ℕ) (a′ : ℕ) (img′ : List ℕ) (p′ : ℕ) : Type 0 where
+pub record EntriesOn (w : ℕ) (t : Wanted) (e : ℕ) (a : ℕ) (img : List ℕ) (p : ℕ) (a′ : ℕ) (img′ : List ℕ)
+    (p′ : ℕ) : Type 0 where
   pub run : (G : Geo) (c : Cache) (n : ℕ) (k : St → Out)
       → Through G (entriesOf w t a e (stWith img c n) k) img p img′ p′ (entriesOf w t a′ e (stWith img′ c n) k)
 

@@ -131,8 +131,8 @@ stepsBehind w E m v l f =
 unfoldable pub stepsOf : ℕ → ℕ → ℕ → Call → Lent → List FlashStep
 stepsOf w E m c l = stepsBehind w E (entriesOf m c) (valueOf c) l (λ G s. runOf G c s)
 
--- what a call with these flash steps, which hands back `done`, tells with power p: the image is what the steps leave with it, so much of it
--- is left, and where it lasts for all of them the call is as it is defined
+-- what a call with these flash steps, which hands back `done`, tells with power p, of which p′ is left: the image is
+-- what the steps leave with it, and where it lasts for all of them the call is as it is defined
 pub record Cut (E : ℕ) (img : List ℕ) (steps : List FlashStep) (done : Told) (p p′ : ℕ) (t : Told) : Type 0 where
   pub image : t .image ≡ cutImage E img p steps
   pub left : p′ ≡ spend p (units steps)

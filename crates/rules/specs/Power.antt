@@ -1,5 +1,6 @@
--- Power: flash steps taken while the power lasts. A byte that is programmed takes one unit of it, an erase takes one, done or not begun;
--- where none is left nothing changes any more. What the steps leave with every power tells their order, byte by byte.
+-- Power: flash steps taken while the power lasts. A byte that is programmed takes one unit of it, an erase takes one
+-- and is done or not begun; where none is left nothing changes any more. What the steps leave with every power tells
+-- their order, byte by byte.
 use Prim.Native.Nat.{ℕ, _+_, _-_}
 use mathlib.Core.Bool.{Bool, true}
 use mathlib.Core.List.{List, [], _∷_}

@@ -15,7 +15,8 @@ use Rattle.fetch.specs.Code.{stOf}
 use Rattle.store.specs.declared.{Run.Run}
 
 -- the end of a run f that erases at most b pages
-pub record RunOk (G : Geo) (n b : ℕ) (f : St → Out) (img : List ℕ) (p : ℕ) (img′ : List ℕ) (p′ : ℕ) (mem : Mem) (r : Run) : Type 0 where
+pub record RunOk (G : Geo) (n b : ℕ) (f : St → Out) (img : List ℕ) (p : ℕ) (img′ : List ℕ) (p′ : ℕ)
+    (mem : Mem) (r : Run) : Type 0 where
   pub is : Through G (f (stOf n img mem)) img p img′ p′ (out (r .answer) (stOf n img′ (r .mem)))
   pub past : Past n (mem .cache) (r .mem .cache)
   pub erased : r .mem .erased ≤ mem .erased + b

@@ -202,7 +202,8 @@ pub item-written : (l l₁ l₂ : List ℕ) (p p₁ p₂ at w k x y : ℕ) (H v 
 item-written l l₁ l₂ p p₁ p₂ at w k x y H v e₁ e₂ hH hx hy hw h8 room =
     let sd = size-data w k v hw h8 in
     let lH : length H ≡ 8 = ap length hH in
-    let r : H ++ dataBytes w k v ≡ encode w k v = ap (λ (z : List ℕ). z ++ dataBytes w k v) hH ∙ item-is w k x y v hx hy in
+    let r : H ++ dataBytes w k v ≡ encode w k v =
+    ap (λ (z : List ℕ). z ++ dataBytes w k v) hH ∙ item-is w k x y v hx hy in
     rw (← r) (wrote-append l l₁ l₂ p p₁ p₂ at (at + 8) H (dataBytes w k v) e₁ e₂ (omega arith) (omega arith))
 
 -- ---- copies

@@ -1,5 +1,5 @@
--- `capi::cut` meets its contract: a wrong length is told by 255, and nothing changes; else the change runs with the power that is lent, and
--- what is left of it is written back.
+-- `capi::cut` meets its contract: a wrong length is told by 255, and nothing changes; else the change runs with the
+-- power that is lent, and what is left of it is written back.
 use mathlib.Core.Path.{sym, _∙_}
 use lib.ListN.{length}
 use Rattle.capi.specs.Code.{callOf}

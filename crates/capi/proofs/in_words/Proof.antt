@@ -1,4 +1,4 @@
--- `capi::in_words` meets its contract: what fits is handed on as it is; where a number doesn't fit, nothing is claimed but that the answer does.
+-- `capi::in_words` meets its contract: what fits is handed on as it is; where a number doesn't, what is handed on does.
 use Rattle.capi.proofs.Ends.{words-yes, words-no}
 use native.Mathlib.Omega.{arith}
 use borrow.Author.Needs.{needs}

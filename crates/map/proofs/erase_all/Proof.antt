@@ -1,12 +1,11 @@
 -- `map::erase_all` meets its contract: an erase of all pages with endless power.
 use Rattle.map.proofs.Laws.{whole-endless}
-use native.Mathlib.Omega.{arith}
 use borrow.Author.Needs.{needs}
 use Rattle.map.proofs.erase_all.Statement.{statement}
 use Rattle.map.proofs.erase_all.Tie as tie
 
 returns : tie.Need-returns
-returns c = whole-endless _ _ _ _ _ 18446744073709551615 _ (c .before .before .erase-all-cut .ensures) (omega arith)
+returns c = whole-endless _ _ _ _ _ _ (c .before .before .erase-all-cut .ensures)
 
 pub erase-all-spec : {M : Type 1} → statement M
 erase-all-spec =

@@ -76,7 +76,7 @@ first-cursor-requires c κs =
     let e : length (r .last .0) ≡ length (a .img .now) = search needs in (
       subst (λ n. Held (g .result) n) (sym e) h,
       has-first (g .result) (a .size) (a .img .now) (r .last .0) _ (r .result)
-          (thr-endless (g .result) _ _ _ 18446744073709551615 _ _ _ (omega arith) (r .ensures .is)),
+          (thr-endless (g .result) _ _ _ _ _ _ (r .ensures .is)),
     )
 
 returns-2 : tie.Need-returns-2
@@ -95,10 +95,10 @@ returns-2 c =
     let r = at-call .call in
     let at = c .first-cursor .ensures
     ∙ ap (λ (x : End). firstCursor (g .result) (x .ans) (x .st .img))
-    (thr-endless (g .result) _ _ _ 18446744073709551615 _ _ _ (omega arith) (r .ensures .is)) in
+    (thr-endless (g .result) _ _ _ _ _ _ (r .ensures .is)) in
     ran (a .page) (a .size) 0 (a .img .now) (no .result) (d .result) (no .ensures) (d .ensures) (λ G s. walkStart G s)
     startCursor noCursor (at-if1 .if1 .left) (a .cache) (g .result) (g .ensures) (r .last .0) (r .result)
-    (thr-endless (g .result) _ _ _ 18446744073709551615 _ _ _ (omega arith) (r .ensures .is)) (r .ensures .past)
+    (thr-endless (g .result) _ _ _ _ _ _ (r .ensures .is)) (r .ensures .past)
     (c .first-cursor .result) at
 
 pub fetch-all-items-spec : {M : Type 1} → statement M

@@ -1,6 +1,5 @@
 -- `map::fetch_item` meets its contract: a fetch behind its refusals, with endless power.
 use Rattle.map.proofs.Laws.{whole-endless}
-use native.Mathlib.Omega.{arith}
 use Rattle.rules.specs.Calls.{called}
 use borrow.Author.Needs.{needs}
 use Rattle.map.proofs.fetch_item.Statement.{statement}
@@ -8,7 +7,7 @@ use Rattle.map.proofs.fetch_item.Tie as tie
 
 returns : tie.Need-returns
 unfolding called
-returns c = whole-endless _ _ _ _ _ 18446744073709551615 _ (c .before .before .behind .ensures) (omega arith)
+returns c = whole-endless _ _ _ _ _ _ (c .before .before .behind .ensures)
 
 pub fetch-item-spec : {M : Type 1} → statement M
 fetch-item-spec =

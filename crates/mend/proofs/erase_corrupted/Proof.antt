@@ -1,4 +1,5 @@
--- `mend::erase_corrupted` meets its contract. Invariant: the run over all pages has come through to the run over the pages from p on.
+-- `mend::erase_corrupted` meets its contract. Invariant: the run over all pages has come through to the run over the
+-- pages from p on.
 use Rattle.laws.specs.Through.{Through, thr-refl, thr-to, thr-then}
 use Rattle.mend.proofs.Laws.{pages-on, pages-end}
 use Rattle.fetch.specs.Code.{stOf}

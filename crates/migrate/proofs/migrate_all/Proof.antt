@@ -1,5 +1,5 @@
--- `migrate::migrate_all` meets its contract. Invariant: the run over all items has come through to the run over the items from `at` on, which
--- writes at `wp`; the cache is its two arrays.
+-- `migrate::migrate_all` meets its contract. Invariant: the run over all items has come through to the run over the
+-- items from `at` on, which writes at `wp`; the cache is its two arrays.
 use Rattle.laws.specs.Through.{Through, thr-refl, thr-to, thr-then}
 use Rattle.migrate.proofs.Laws.{item-one, run-none, run-end, run-skip, run-bad, run-on, far}
 use Rattle.migrate.proofs.Cached.{lies-skip, lies-item, kept-apart, run-apart}

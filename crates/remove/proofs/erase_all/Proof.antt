@@ -1,4 +1,5 @@
--- `remove::erase_all` meets its contract. Invariant: the run over all pages has come through to the run over the pages from p on.
+-- `remove::erase_all` meets its contract. Invariant: the run over all pages has come through to the run over the pages
+-- from p on.
 use Rattle.laws.specs.Through.{Through, thr-refl}
 use Rattle.remove.proofs.Laws.{eraseFrom, erase-on, erased-all}
 use Rattle.remove.specs.Code.{stWith}
