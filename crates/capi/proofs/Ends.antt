@@ -21,7 +21,7 @@ use Rattle.cache.specs.Code.{pointers}
 use Rattle.map.specs.declared.{Told.Told, Started.Started, Stepped.Stepped}
 use Rattle.map.specs.Code.{lentOf, toldOf, CutOk, startedOf, PlainOk, StepOk}
 use Rattle.capi.specs.declared.{Change.Change}
-use Rattle.capi.specs.Code.{Word, Fits, WordsOk, cutLengths, CutBorder, callOf, entriesOf, cacheWords, cursorOf}
+use Rattle.capi.specs.Code.{Word, Fits, WordsOk, cutLengths, CutBorder, changeCall, entriesOf, cacheWords, cursorOf}
 use Rattle.capi.specs.Code.{cursorAfter, outWords, border, plainBorder, startBorder, stepBorder}
 use Rattle.capi.proofs.Small.{told-fits}
 
@@ -50,19 +50,19 @@ module _ (E m : ℕ) (call : Call) (img ws ow : List ℕ) where
 -- what fits is told as it is; where a number doesn't fit, the answer is one that does
 pub words-yes : (t : Told) (s : Shown) → s ≡ shownOf (t .answer) → Word (t .erased) → Word (s .place) → Word (s .len)
     → WordsOk t (record { answer = t .answer; cache = t .cache; erased = t .erased })
-words-yes t s e f g h = record { cache = refl; fits = (f, rw e at g, rw e at h); same = λ k. refl }
+words-yes t s e f g h = record { fits = (f, rw e at g, rw e at h); same = λ k. refl }
 
 pub words-no : (t : Told) (s : Shown) → s ≡ shownOf (t .answer)
     → (Word (t .erased) × Word (s .place) × Word (s .len) → ⊥)
     → WordsOk t (record { answer = Corrupted; cache = t .cache; erased = 0 })
 words-no t s e n =
     let no : Fits (t .erased) (t .answer) → ⊥ = rw e at n in
-    record { cache = refl; fits = (omega arith, omega arith, omega arith); same = λ k. absurd (no k) }
+    record { fits = (omega arith, omega arith, omega arith); same = λ k. absurd (no k) }
 
 -- the change that a call is
 pub as-change : (E m : ℕ) (job : Change) (v : List ℕ) (l : Lent) (p p′ : ℕ) (t : Handed) (j : Change) → j ≡ job
-    → CutOk E m (callOf job v) l p p′ t → CutOk E m (callOf j v) l p p′ t
-as-change E m job v l p p′ t j e o = subst (λ (x : Change). CutOk E m (callOf x v) l p p′ t) (sym e) o
+    → CutOk E m (changeCall job v) l p p′ t → CutOk E m (changeCall j v) l p p′ t
+as-change E m job v l p p′ t j e o = subst (λ (x : Change). CutOk E m (changeCall x v) l p p′ t) (sym e) o
 
 not-both : _≡_ {A = Bool} false true → ⊥
 not-both q = let z : _≡_ {A = ℕ} 0 1 = cc in absurd (omega arith)

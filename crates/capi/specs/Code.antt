@@ -197,15 +197,14 @@ stepBorder E i w o =
 -- ---- the inner functions
 
 -- the call that a change is
-abbrev pub callOf : Change → List ℕ → Call
-callOf (Store k) v = storeItem k v
-callOf (Remove k) v = removeItem k
-callOf RemoveAll v = removeAllItems
-callOf EraseAll v = eraseAllPages
+abbrev pub changeCall : Change → List ℕ → Call
+changeCall (Store k) v = storeItem k v
+changeCall (Remove k) v = removeItem k
+changeCall RemoveAll v = removeAllItems
+changeCall EraseAll v = eraseAllPages
 
 -- what a call told, if it fits; else something that does
 pub record WordsOk (told r : Told) : Type 0 where
-  pub cache : r .cache ≡ told .cache
   pub fits : Fits (r .erased) (r .answer)
   pub same : Fits (told .erased) (told .answer) → r ≡ told
 

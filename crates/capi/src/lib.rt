@@ -8,7 +8,7 @@ ghost use Rattle.rules.specs.Cache.{lookup};
 ghost use Rattle.rules.specs.Calls.{fetchItem, storeItem, removeItem, removeAllItems, eraseAllPages};
 ghost use Rattle.cache.specs.Code.{pointers};
 ghost use Rattle.map.specs.Code.{CutOk, lentOf, toldOf};
-ghost use Rattle.capi.specs.Code.{Word, Fits, WordsOk, CursorFits, entriesOf, lentCache, StillOk, cacheWords, cursorOf, cursorWords, cursorAfter, outWords, border, cutLengths, CutBorder, callOf, plainBorder, startBorder, stepBorder};
+ghost use Rattle.capi.specs.Code.{Word, Fits, WordsOk, CursorFits, entriesOf, lentCache, StillOk, cacheWords, cursorOf, cursorWords, cursorAfter, outWords, border, cutLengths, CutBorder, changeCall, plainBorder, startBorder, stepBorder};
 use cache::Cache;
 use map::Told;
 use rules::Answer;
@@ -407,7 +407,7 @@ fn run_change(
     value: &[u8],
     power: &mut usize,
 ) -> Told
-    ensures { λ r. ⌜ CutOk page size (callOf job (now (value .entry))) (lentOf (now (img .entry)) cache)
+    ensures { λ r. ⌜ CutOk page size (changeCall job (now (value .entry))) (lentOf (now (img .entry)) cache)
         (now (power .entry)) (now (power .exit)) (toldOf (now (img .exit)) r) ⌝ }
 {
     match job {
@@ -429,7 +429,7 @@ fn cut(
     power: &mut [usize],
     out: &mut [u32],
 ) -> u32
-    ensures { λ r. ⌜ CutBorder page size (callOf job (now (value .entry))) (now (img .entry)) (now (cache .entry)) (now (power .entry)) (now (out .entry))
+    ensures { λ r. ⌜ CutBorder page size (changeCall job (now (value .entry))) (now (img .entry)) (now (cache .entry)) (now (power .entry)) (now (out .entry))
         (record { no = r; image = now (img .exit); cache = now (cache .exit); power = now (power .exit); out = now (out .exit) }) ⌝ }
 {
     if cut_lengths(cache.len(), power.len(), out.len()) {

@@ -147,9 +147,9 @@ steps-give w E m c b = steps-play w E m c b
 pub repair-steps-give : (G : Geo) (s : St) → replay (G .page) (s .img) (repair G s .steps) ≡ repair G s .st .img
 repair-steps-give G s = repair-plays G s .is
 
--- ---- THEIR ORDER. What the code leaves with every power is `cutImage` of these steps (the statements of store_item_cut and the others in map). With power for
--- some of the steps it is the image after these; with power for some bytes of the next one too, these bytes are programmed, and no others; with power
--- for all of them it is the image that the call leaves.
+-- ---- THEIR ORDER. What the code leaves with every power is `cutImage` of these steps (the statements of store_item_cut and
+-- the others in map). With power for some of the steps it is the image after these; with power for some bytes of the
+-- next one too, these bytes are programmed, and no others; with power for all of them it is the image that the call leaves.
 
 pub order : (w E m : ℕ) (c : Call) (b : Lent) (xs ys : List FlashStep) → stepsOf w E m c b ≡ xs ++ ys → units xs < endless
     → cutImage E (b .image) (units xs) (stepsOf w E m c b) ≡ replay E (b .image) xs

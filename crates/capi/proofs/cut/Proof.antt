@@ -2,7 +2,7 @@
 -- power that is lent, and what is left of it is written back.
 use mathlib.Core.Path.{sym, _∙_}
 use lib.ListN.{length}
-use Rattle.capi.specs.Code.{callOf}
+use Rattle.capi.specs.Code.{changeCall}
 use Rattle.capi.proofs.Ends.{cut-wrong, cut-told, lengths}
 use native.Mathlib.Omega.{arith}
 use borrow.Author.Needs.{needs}
@@ -59,7 +59,7 @@ returns c =
     let a = at-start .args in
     let r = at-run-change .run-change in
     let f = at-finish .finish in
-    cut-told (a .page) (a .size) (callOf (a .job) (a .value .now)) (a .img .now) (a .cache .now) (a .power .now)
+    cut-told (a .page) (a .size) (changeCall (a .job) (a .value .now)) (a .img .now) (a .cache .now) (a .power .now)
     (a .out .now) (sym (at-cut-lengths .cut-lengths .ensures) ∙ at-if1 .if1 .taken) (at-cache-of .cache-of .result)
     (at-cache-of .cache-of .ensures) (r .last .0) (r .last .1 .1 .1 .1 .1 .1 .0) (r .result) (r .ensures)
     (at-in-words .in-words .result) (at-in-words .in-words .ensures) (f .result) (f .last .0) (f .last .1 .0)
@@ -69,7 +69,7 @@ returns-2 : tie.Need-returns-2
 returns-2 c =
     let at-start = c .before .before .before .before .before .before .before in
     let a = at-start .args in
-    cut-wrong (a .page) (a .size) (callOf (a .job) (a .value .now)) (a .img .now) (a .cache .now) (a .power .now)
+    cut-wrong (a .page) (a .size) (changeCall (a .job) (a .value .now)) (a .img .now) (a .cache .now) (a .power .now)
     (a .out .now) (sym (c .before .cut-lengths .ensures) ∙ c .if1 .left)
 
 pub cut-spec : {M : Type 1} → statement M
