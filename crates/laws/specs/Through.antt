@@ -2,7 +2,7 @@
 -- p', and rest is what is still to be run; or the power ran out, and img' is the cut image. The rest speaks of the
 -- image that is really there, so the next test of the code is the next test of the rest, cut or not; after a cut what
 -- follows runs without power and changes nothing.
-use Rattle.std.specs.Prelude.{◌≡◌, ℕ, ◌+◌, ◌≤◌, Bool, List, [], ◌∷◌, ◌++◌, length}
+use Rattle.std.specs.Prelude.{◌≡◌, ℕ, ◌+◌, Bool, List, [], ◌∷◌, ◌++◌, length}
 use Rattle.std.proofs.Math.Path.{refl, sym}
 use Rattle.std.proofs.Common.{ap, ◌∙◌, subst, append_assoc, append-nil, arith, add-zero}
 use Rattle.std.proofs.Math.Bool.{true, false}

@@ -1,1 +1,2 @@
 // Lemmas about the definitions of `rules`; no code.
+#![tactic(auto)]

@@ -1,1 +1,2 @@
 // Theorems on the order of the code's writes; no code.
+#![tactic(auto)]

@@ -22,7 +22,7 @@ use Rattle.theory.specs.Keep.{it_of}
 use Rattle.theory.specs.Stored.{Fitting, StoreRes, stored, full}
 use Rattle.theory.specs.Sane.{done_clean, store_clean, Sane, good_sane, other_cache, blank-newest, no_bad}
 use Rattle.theory.specs.Fetching.{fetch_sane}
-use Rattle.theory.specs.Storing.{st, store_res}
+use Rattle.theory.specs.Storing.{store_res}
 use Rattle.theory.specs.Listed.{val_of, drop-same, drop_other, Lists, store_list, kept_list}
 use Rattle.theory.specs.Gone.{erased_img}
 use Rattle.theory.specs.Removing.{Rid, rid_of, removed_img, Removed, remove_res, not_held, erase_res, wiped}

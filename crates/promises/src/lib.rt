@@ -1,1 +1,2 @@
 // The final statements; no code.
+#![tactic(auto)]

@@ -1,7 +1,8 @@
 // The types that the definitions in specs/ and the code share.
+#![tactic(auto)]
 
 // A geometry: bytes of a word, bytes of a page, number of pages.
-#[derive(Drop)]
+#[derive(Clone, Copy)]
 pub struct Geo {
     pub word: usize,
     pub page: usize,
@@ -9,7 +10,7 @@ pub struct Geo {
 }
 
 // What the two marks of a page say.
-#[derive(Drop)]
+#[derive(Clone, Copy)]
 pub enum PageState {
     Open,
     PartialOpen,
@@ -18,7 +19,7 @@ pub enum PageState {
 }
 
 // What an item is.
-#[derive(Drop)]
+#[derive(Clone, Copy)]
 pub enum Kind {
     Present,
     Removed,
@@ -26,7 +27,7 @@ pub enum Kind {
 }
 
 // Where a walk stands: its first page, the page it reads, the place it reads next.
-#[derive(Drop)]
+#[derive(Clone, Copy)]
 pub struct Cursor {
     pub first: usize,
     pub page: usize,
@@ -34,7 +35,7 @@ pub struct Cursor {
 }
 
 // What a call answers. A value has a place and a length, an item a key before them.
-#[derive(Drop)]
+#[derive(Clone, Copy)]
 pub enum Answer {
     Done,
     Value(usize, usize),

@@ -10,7 +10,7 @@ use Rattle.rules.specs.Bytes.{pick, erase}
 use Rattle.rules.specs.Items.{Item, Entry, size}
 use Rattle.rules.specs.Pages.{scan_of, items_of, area_len, data_at, end_at}
 use Rattle.rules.specs.Cache.{Cache}
-use Rattle.rules.specs.Runs.{St, End, final, end}
+use Rattle.rules.specs.Runs.{St, End, final}
 use Rattle.rules.specs.Fetch.{Found, corrupt, missing, found, or_else, last_with}
 use Rattle.rules.specs.Store.{migrate, rollover, turns}
 use Rattle.rules.specs.Sound.{All, Ring}

@@ -17,7 +17,7 @@ use Rattle.rules.specs.Sound.{All, Ring}
 use Rattle.laws.specs.Lists.{All-append, All-left, All-map, All-zip}
 use Rattle.laws.specs.Geometry.{Fit, page_in}
 use Rattle.laws.specs.Entries.{spans, Stands, stands_items, Sorted-presents, page-ok}
-use Rattle.laws.specs.Touch.{mark_start, mark_end, erased}
+use Rattle.laws.specs.Touch.{mark_start, mark_end}
 use Rattle.laws.specs.Rings.{log_of, newest_is, last-append}
 use Rattle.laws.specs.Moves.{Not, rest_not, Freed, turned, rolled, freed}
 use Rattle.laws.specs.RunLaws.{on_yes}

@@ -5,7 +5,7 @@ use Rattle.rules.specs.declared.{Geo.Geo, Answer.TheVariants.Done}
 use Rattle.rules.specs.Items.{size}
 use Rattle.rules.specs.Pages.{scan_of, items_of, area_len, end_at}
 use Rattle.rules.specs.Cache.{Cache}
-use Rattle.rules.specs.Runs.{St, End, final, end}
+use Rattle.rules.specs.Runs.{St, End, final}
 use Rattle.rules.specs.Fetch.{missing, last_with}
 use Rattle.rules.specs.Store.{rollover, turns}
 use Rattle.rules.specs.Sound.{All, Ring}

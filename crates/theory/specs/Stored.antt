@@ -13,7 +13,7 @@ use borrow.Author.Tests.{leb-true, leb-false, le-leb, lt-leb, lt-ltb, ne_eqb, eq
 use Rattle.rules.specs.declared.{Geo.Geo, Answer.TheVariants.Done, Answer.TheVariants.FullStorage}
 use Rattle.rules.specs.Bytes.{pick, both, program, to_le, round_up, programs, Bytes}
 use Rattle.rules.specs.Items.{Item, Entry, size, encode, encode_data, check_of, pad, item, read}
-use Rattle.rules.specs.Pages.{scan_of, items_of, end_at, zero_word, blank_at, same}
+use Rattle.rules.specs.Pages.{scan_of, items_of, end_at, zero_word, blank_at}
 use Rattle.rules.specs.Cache.{Cache, note}
 use Rattle.rules.specs.Answers.{number}
 use Rattle.rules.specs.Runs.{Out, out, on_done, after, End, end, final, programming}

@@ -1,1 +1,2 @@
 // Lemmas about whole calls; no code.
+#![tactic(auto)]
