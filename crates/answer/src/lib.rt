@@ -1,4 +1,6 @@
 // The answers' numbers and what they show, and the refusals that come before a call.
+#![tactic(auto)]
+
 ghost use Rattle.std.specs.Prelude.{◌≡◌, ◌≤◌, ◌<◌};
 ghost use Rattle.rules.specs.Answers.{number, is_no, refusal};
 ghost use Rattle.rules.specs.Calls.{geo_of};
@@ -7,7 +9,7 @@ ghost use Rattle.answer.specs.Code.{shown_of};
 use rules::{Answer, Geo};
 
 // What an answer shows: its kind (0 nothing, 1 a value or an item), place, length and key.
-#[derive(Drop)]
+#[derive(Clone, Copy)]
 pub struct Shown {
     pub kind: u32,
     pub place: usize,

@@ -1,11 +1,13 @@
 // The cache of places, in two arrays of 32, of which a call uses the first entries.
+#![tactic(auto)]
+
 ghost use Rattle.std.specs.Prelude.{◌≡◌, ◌∷◌, ◌++◌, suc, ◌-◌, ◌≤◌, ◌<◌, length, get_or, take, drop, replicate};
 ghost use Rattle.rules.specs.Cache.{lookup, note, forget, clear};
 ghost use Rattle.cache.specs.Code.{arrays, pointers, Past, NotedOk, index};
 
 // Entries in order, newest first. Place 0 is an empty entry.
 #[repr(C)]
-#[derive(Drop)]
+#[derive(Clone, Copy)]
 pub struct Cache {
     pub keys: [u32; 32],
     pub places: [u32; 32],

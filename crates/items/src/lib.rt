@@ -1,4 +1,6 @@
 // Items: the reading at a place, what an item is, and the loops over a data area.
+#![tactic(auto)]
+
 ghost use Rattle.std.specs.Prelude.{◌≡◌, ◌+◌, ◌≤◌, ◌<◌, length, leb};
 ghost use Rattle.rules.specs.Bytes.{both};
 ghost use Rattle.rules.specs.Items.{item_of, is_present, read, presents};
@@ -9,7 +11,7 @@ ghost use Rattle.items.specs.Code.{part, read_of, Fine, Stays, Keyed, told, or_o
 use rules::Kind;
 
 // What stands at a place: the scan's end, a word to skip, or an item of this data length.
-#[derive(Drop)]
+#[derive(Clone, Copy)]
 pub enum Read {
     End,
     Skip,
@@ -17,7 +19,7 @@ pub enum Read {
 }
 
 // What a search answers: the place and the data length of an item.
-#[derive(Drop)]
+#[derive(Clone, Copy)]
 pub enum Spot {
     Corrupt,
     Missing,

@@ -1,4 +1,6 @@
 // The ring: where pages stand, their states, what a page holds, marking and erasing.
+#![tactic(auto)]
+
 ghost use Rattle.std.specs.Prelude.{◌≡◌, ◌+◌, ◌-◌, ◌*◌, ◌≤◌, ◌<◌, length, replicate};
 ghost use Rattle.rules.specs.declared.{PageState.TheVariants.Corrupted};
 ghost use Rattle.rules.specs.Held.{Held};

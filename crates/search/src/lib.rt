@@ -1,4 +1,6 @@
 // The search around the ring, and what a cached place holds.
+#![tactic(auto)]
+
 ghost use Rattle.std.specs.Prelude.{◌≡◌, ◌+◌, ◌^◌, ◌≤◌, ◌<◌, length};
 ghost use Rattle.rules.specs.Held.{Held};
 ghost use Rattle.rules.specs.Items.{read};
@@ -11,7 +13,7 @@ use items::{Read, Spot};
 use rules::{Geo, PageState};
 
 // What a cached place holds: a Present item with the key, by place and data length, or nothing.
-#[derive(Drop)]
+#[derive(Clone, Copy)]
 pub enum Cached {
     At(usize, usize),
     Nothing,

@@ -1,4 +1,6 @@
 // Bytes, zero bits, little-endian numbers, sizes, and the two changes of the image.
+#![tactic(auto)]
+
 ghost use Rattle.std.specs.Prelude.{◌≡◌, ◌+◌, ◌*◌, ◌^◌, ◌≤◌, ◌<◌, min, length, take, drop, replicate};
 ghost use Rattle.rules.specs.Power.{lasts, spend};
 ghost use Rattle.laws.specs.Power.{Wrote};

@@ -1,4 +1,6 @@
 // Items are written and copied, whole words in order of place.
+#![tactic(auto)]
+
 ghost use Rattle.std.specs.Prelude.{◌≡◌, ◌++◌, ◌⊎◌, ◌+◌, ◌-◌, ◌%◌, ◌^◌, ◌≤◌, ◌<◌, length, get_or, take, drop, replicate};
 ghost use Rattle.rules.specs.Bytes.{to_le, zeros};
 ghost use Rattle.rules.specs.Items.{size, pad, encode};
