@@ -1,4 +1,6 @@
 // The calls behind their refusals: each looks at all page states, and repairs once where it must.
+#![tactic(auto)]
+
 ghost use Rattle.std.specs.Prelude.{◌≡◌, ◌+◌, ◌^◌, ◌≤◌, ◌<◌, length};
 ghost use Rattle.rules.specs.Held.{Held};
 ghost use Rattle.rules.specs.Fetch.{run_fetch, plain_fetch};
@@ -19,7 +21,7 @@ use search::Cached;
 use store::Run;
 
 // What a call runs behind its look at all page states. A store's value is lent beside it.
-#[derive(Drop)]
+#[derive(Clone, Copy)]
 pub enum Job {
     Fetch(u32),
     Store(u32),

@@ -1,4 +1,6 @@
 // Fetch: the cached place, else the search.
+#![tactic(auto)]
+
 ghost use Rattle.std.specs.Prelude.{◌≡◌, ◌≤◌, length};
 ghost use Rattle.rules.specs.Held.{Held};
 ghost use Rattle.rules.specs.Cache.{note, clear};
@@ -13,14 +15,14 @@ use rules::Geo;
 use search::Cached;
 
 // What a call has beside the image: the cache, and the number of pages erased so far.
-#[derive(Drop)]
+#[derive(Clone, Copy)]
 pub struct Mem {
     pub cache: Cache,
     pub erased: usize,
 }
 
 // What a fetch finds, and the memory after it.
-#[derive(Drop)]
+#[derive(Clone, Copy)]
 pub struct Fetched {
     pub mem: Mem,
     pub spot: Spot,

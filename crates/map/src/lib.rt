@@ -1,4 +1,6 @@
 // The public calls: any image, page size, cache, cursor, key and value; words of 4 bytes. The refusals come first.
+#![tactic(auto)]
+
 ghost use Rattle.std.specs.Prelude.{◌≡◌, length};
 ghost use Rattle.rules.specs.Held.{Held};
 ghost use Rattle.rules.specs.Answers.{refusal};
@@ -16,7 +18,7 @@ use store::Run;
 use walk::Step;
 
 // What a call hands back beside the image.
-#[derive(Drop)]
+#[derive(Clone, Copy)]
 pub struct Told {
     pub answer: Answer,
     pub cache: Cache,
@@ -24,7 +26,7 @@ pub struct Told {
 }
 
 // What a walk's start hands back beside the image.
-#[derive(Drop)]
+#[derive(Clone, Copy)]
 pub struct Started {
     pub answer: Answer,
     pub cursor: Cursor,
@@ -33,7 +35,7 @@ pub struct Started {
 }
 
 // What a walk's step answers, and the cursor after it.
-#[derive(Drop)]
+#[derive(Clone, Copy)]
 pub struct Stepped {
     pub answer: Answer,
     pub cursor: Cursor,

@@ -1,4 +1,6 @@
 // Migration: the newest items of a page are copied to another, and the page is erased.
+#![tactic(auto)]
+
 ghost use Rattle.std.specs.Prelude.{◌≡◌, true, ◌⊎◌, ◌+◌, ◌-◌, ◌^◌, ◌≤◌, ◌<◌, length};
 ghost use Rattle.rules.specs.Held.{Held};
 ghost use Rattle.rules.specs.Items.{read, size};
@@ -17,7 +19,7 @@ use rules::Geo;
 use search::Cached;
 
 // After an item: the memory, the next place to write, and that nothing was wrong.
-#[derive(Drop)]
+#[derive(Clone, Copy)]
 pub struct Moved {
     pub mem: Mem,
     pub to: usize,
@@ -25,7 +27,7 @@ pub struct Moved {
 }
 
 // What the cache alone settles of an item: the next place to write. Else the fetch is asked.
-#[derive(Drop)]
+#[derive(Clone, Copy)]
 pub enum Step {
     To(usize),
     Ask,

@@ -1,4 +1,6 @@
 // Removal of one key and of all, and erase all.
+#![tactic(auto)]
+
 ghost use Rattle.std.specs.Prelude.{◌≡◌, ◌+◌, ◌^◌, ◌≤◌, ◌<◌, length};
 ghost use Rattle.rules.specs.Held.{Held};
 ghost use Rattle.rules.specs.Items.{item_of};
@@ -13,7 +15,7 @@ use rules::{Answer, Geo, PageState};
 use store::Run;
 
 // What is to be removed: every key, or one.
-#[derive(Drop)]
+#[derive(Clone, Copy)]
 pub enum Which {
     Every,
     Only(u32),

@@ -1,4 +1,6 @@
 // Store: rollover, one turn, at most n turns.
+#![tactic(auto)]
+
 ghost use Rattle.std.specs.Prelude.{◌+◌, ◌^◌, ◌≤◌, ◌<◌, length};
 ghost use Rattle.rules.specs.Held.{Held};
 ghost use Rattle.rules.specs.Store.{rollover, turn, turns};
@@ -13,7 +15,7 @@ use migrate::Moved;
 use rules::{Answer, Geo, PageState};
 
 // How a run ends: the memory it leaves and its answer.
-#[derive(Drop)]
+#[derive(Clone, Copy)]
 pub struct Run {
     pub mem: Mem,
     pub answer: Answer,

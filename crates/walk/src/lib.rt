@@ -1,4 +1,6 @@
 // The walk: its first page, and a step from a cursor to the next item.
+#![tactic(auto)]
+
 ghost use Rattle.std.specs.Prelude.{◌≡◌, ◌≤◌, ◌<◌, length};
 ghost use Rattle.rules.specs.Held.{Held};
 ghost use Rattle.rules.specs.Items.{presents};
@@ -11,7 +13,7 @@ use items::{Read, Spot};
 use rules::{Cursor, Geo, PageState};
 
 // What a step answers: the end, or an item's key, its value's place and length, and the next cursor.
-#[derive(Drop)]
+#[derive(Clone, Copy)]
 pub enum Step {
     Ended,
     Stepped(u32, usize, usize, Cursor),
