@@ -1,4 +1,6 @@
 // The C border over the public calls: numbers and slices only, and the answer's number back.
+#![tactic(auto)]
+
 ghost use Rattle.std.specs.Prelude.{◌≡◌, [], ◌∷◌, ◌≤◌, length};
 ghost use Rattle.rules.specs.Answers.{number};
 ghost use Rattle.rules.specs.Cache.{lookup};
@@ -387,7 +389,7 @@ fn in_words(told: Told) -> Told
 }
 
 // A call that changes the map, and that can be cut.
-#[derive(Drop)]
+#[derive(Clone, Copy)]
 enum Change {
     Store(u32),
     Remove(u32),

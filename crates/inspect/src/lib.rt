@@ -1,4 +1,6 @@
 // What a tool asks of an image: the first reason why it is not sound, and what the bytes of a page hold.
+#![tactic(auto)]
+
 ghost use Rattle.std.specs.Prelude.{◌≡◌, ◌+◌, ◌^◌, ◌≤◌, ◌<◌, length};
 ghost use Rattle.rules.specs.Held.{Held};
 ghost use Rattle.rules.specs.Pages.{data_at, end_at, state, scan_of};
@@ -10,7 +12,7 @@ use items::Read;
 use rules::{Geo, Kind, PageState};
 
 // The first reason why an image is not sound, in this order.
-#[derive(Drop)]
+#[derive(Clone, Copy)]
 pub enum Fault {
     Nothing, // the image is sound
     Refused(u32), // the sizes are refused with this answer number, 1 to 4
@@ -25,7 +27,7 @@ pub enum Fault {
 
 // The bytes of a page's data area: those of Present items, of Removed ones, of Damaged ones and skipped words, and those after
 // the scan's end.
-#[derive(Drop)]
+#[derive(Clone, Copy)]
 pub struct Tally {
     pub state: PageState,
     pub present: usize,

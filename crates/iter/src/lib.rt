@@ -1,4 +1,6 @@
 // The walk as a struct that holds the image it reads, over the proved step of map.
+#![tactic(auto)]
+
 ghost use Rattle.std.specs.Prelude.{◌≡◌};
 ghost use Rattle.map.specs.Code.{StepOk};
 ghost use Rattle.iter.specs.Code.{walk_at, cursor_of};
@@ -7,7 +9,7 @@ use map::Stepped;
 use rules::Cursor;
 
 // A walk: the image, its first page, the page it reads, the place it reads next.
-#[derive(Drop)]
+#[derive(Clone, Copy)]
 pub struct MapItemIter<'a> {
     pub image: &'a [u8],
     pub first: usize,

@@ -4,7 +4,7 @@ ghost use Rattle.lists.specs.Reads.{blank, lettered, broken, begun, grown, read_
 
 // A line as far as it is read. The letter is a line end where nothing is read yet, ? where the bytes are no line, # in a
 // comment. A digit is due after a space.
-#[derive(Drop)]
+#[derive(Clone, Copy)]
 pub struct Line {
     pub letter: u8,
     pub count: usize,

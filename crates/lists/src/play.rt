@@ -12,7 +12,7 @@ use map::Told;
 use rules::{Answer, Cursor};
 
 // A run of a list: bytes of a page and of the image, entries of the cache, and what the next call is lent beside the image.
-#[derive(Drop)]
+#[derive(Clone, Copy)]
 pub struct Run {
     pub page: usize,
     pub len: usize,
@@ -22,7 +22,7 @@ pub struct Run {
 }
 
 // What a line says of a call: the answer's number, the pages erased, the digests of image and cache.
-#[derive(Drop)]
+#[derive(Clone, Copy)]
 pub struct Says {
     pub no: u32,
     pub erased: usize,
@@ -31,7 +31,7 @@ pub struct Says {
 }
 
 // What a line says that an answer shows: kind (0 nothing, 1 a value or an item), key, and the value.
-#[derive(Drop)]
+#[derive(Clone, Copy)]
 pub struct Seen {
     pub kind: u32,
     pub key: u32,
@@ -41,7 +41,7 @@ pub struct Seen {
 }
 
 // What a call leaves beside the image, and whether it is as its line says.
-#[derive(Drop)]
+#[derive(Clone, Copy)]
 pub struct Played {
     pub cache: Cache,
     pub cursor: Cursor,

@@ -1,2 +1,0 @@
--- what the proofs by hand share
-pub mod Hand
