@@ -1,9 +1,11 @@
 // A first use of the map: stores a value, fetches it, and writes it to standard output.
-use cache::Cache;
-use libc::STDOUT_FILENO;
-use rules::Answer;
+#![tactic(auto)]
 
-fn main() {
+use cache::Cache;
+use rules::Answer;
+use std::io;
+
+fn main(rt: HostRuntime) -> io::Result<()> {
     let mut img = [255u8; 64]; // blank flash, two pages of 32 bytes
     let empty = Cache {
         keys: [0u32; 32],
@@ -14,7 +16,7 @@ fn main() {
     let fetched = map::fetch_item(&mut img, 32, cache, 2, 1);
     let a = fetched.answer;
     let Answer::Value(place, len) = a else {
-        return;
+        return Ok(());
     };
-    io::write_all(STDOUT_FILENO, map::view(&img, place, len)); // a part of img, not a copy
+    rt.write_all(map::view(&img, place, len)) // a part of img, not a copy
 }

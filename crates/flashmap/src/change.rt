@@ -1,6 +1,5 @@
 // The changes of an image: made in memory, written to a new file, and told.
 use crate::listing;
-use map::Told;
 use rules::Answer;
 use shell::trouble::{Part, Trouble};
 use shell::{file, sheet, text};
@@ -8,23 +7,23 @@ use tool::hex::Bytes;
 use tool::{number, word};
 
 // The changed image in the place of the old one, where the map did what it was asked.
-fn keep(told: Told, path: &[u8], img: &[u8]) -> Trouble {
-    let a = told.answer;
+fn keep(rt: &HostRuntime, a: Answer, path: &[u8], img: &[u8]) -> Trouble {
     let no = answer::number(a);
     if no != 0 {
         return Trouble::Refused(no);
     }
-    file::replace(path, img)
+    file::replace(rt, path, img)
 }
 
 // The pages that a change erased.
-fn say_erased(out: &mut [u8], n: usize) {
-    text::say_number(out, text::ERASES, n);
-    sheet::put_end(out);
+fn say_erased(rt: &HostRuntime, out: &mut [u8], n: usize) {
+    text::say_number(rt, out, text::ERASES, n);
+    sheet::put_end(rt, out);
 }
 
 // A key gets a value.
 fn store_value(
+    rt: &HostRuntime,
     img: &mut [u8],
     page: usize,
     key: u32,
@@ -33,17 +32,18 @@ fn store_value(
     out: &mut [u8],
 ) -> Trouble {
     let told = map::store_item(img, page, listing::no_cache(), 0, key, value);
-    let t = keep(told, path, img);
+    let t = keep(rt, told.answer, path, img);
     if let Trouble::Nothing = t {
-        text::say_number(out, text::THE_KEY, key as usize);
-        text::say_number(out, text::STORED, value.len());
-        say_erased(out, told.erased);
+        text::say_number(rt, out, text::THE_KEY, key as usize);
+        text::say_number(rt, out, text::STORED, value.len());
+        say_erased(rt, out, told.erased);
     }
     t
 }
 
 // A key gets the value that is typed; a line stands for the empty one.
 pub fn store(
+    rt: &HostRuntime,
     img: &mut [u8],
     page: usize,
     key: u32,
@@ -52,14 +52,14 @@ pub fn store(
     out: &mut [u8],
 ) -> Trouble {
     let mut value = [0u8; 65536];
-    if check::same(typed, b"-") {
-        return store_value(img, page, key, b"", path, out);
+    if typed == b"-".as_slice() {
+        return store_value(rt, img, page, key, b"", path, out);
     }
     let b = tool::hex::read(typed, &mut value);
     match b {
         Bytes::Bad => Trouble::Bad(Part::Hex),
         Bytes::Long => Trouble::Refused(6),
-        Bytes::Count(n) => store_value(img, page, key, word::head(&value, n), path, out),
+        Bytes::Count(n) => store_value(rt, img, page, key, word::head(&value, n), path, out),
     }
 }
 
@@ -70,35 +70,55 @@ fn is_missing(img: &[u8], page: usize, key: u32) -> bool {
 }
 
 // A key is removed.
-pub fn remove(img: &mut [u8], page: usize, key: u32, path: &[u8], out: &mut [u8]) -> Trouble {
+pub fn remove(
+    rt: &HostRuntime,
+    img: &mut [u8],
+    page: usize,
+    key: u32,
+    path: &[u8],
+    out: &mut [u8],
+) -> Trouble {
     if is_missing(img, page, key) {
-        text::say_number(out, text::THE_KEY, key as usize);
-        text::say_line(out, text::NOT_HELD);
+        text::say_number(rt, out, text::THE_KEY, key as usize);
+        text::say_line(rt, out, text::NOT_HELD);
         return Trouble::Nothing;
     }
     let told = map::remove_item(img, page, listing::no_cache(), 0, key);
-    let t = keep(told, path, img);
+    let t = keep(rt, told.answer, path, img);
     if let Trouble::Nothing = t {
-        text::say_number(out, text::THE_KEY, key as usize);
-        text::say(out, text::REMOVED);
-        say_erased(out, told.erased);
+        text::say_number(rt, out, text::THE_KEY, key as usize);
+        text::say(rt, out, text::REMOVED);
+        say_erased(rt, out, told.erased);
     }
     t
 }
 
 // All pages are erased.
-pub fn erase(img: &mut [u8], page: usize, path: &[u8], out: &mut [u8]) -> Trouble {
+pub fn erase(
+    rt: &HostRuntime,
+    img: &mut [u8],
+    page: usize,
+    path: &[u8],
+    out: &mut [u8],
+) -> Trouble {
     let told = map::erase_all(img, page, listing::no_cache(), 0);
-    let t = keep(told, path, img);
+    let t = keep(rt, told.answer, path, img);
     if let Trouble::Nothing = t {
-        text::say(out, text::ERASED);
-        say_erased(out, told.erased);
+        text::say(rt, out, text::ERASED);
+        say_erased(rt, out, told.erased);
     }
     t
 }
 
 // A new image of blank pages, where there is no file yet.
-pub fn blank(room: &mut [u8], page: u32, pages: u32, path: &[u8], out: &mut [u8]) -> Trouble {
+pub fn blank(
+    rt: &HostRuntime,
+    room: &mut [u8],
+    page: u32,
+    pages: u32,
+    path: &[u8],
+    out: &mut [u8],
+) -> Trouble {
     let n = number::product(page, pages);
     let no = answer::number(map::try_new(page as usize, n, 0));
     if no != 0 {
@@ -109,10 +129,10 @@ pub fn blank(room: &mut [u8], page: u32, pages: u32, path: &[u8], out: &mut [u8]
     }
     let img = word::head_mut(room, n);
     map::erase_all(img, page as usize, listing::no_cache(), 0);
-    let t = file::make(path, img, Trouble::Exists);
+    let t = file::make(rt, path, img, Trouble::Exists);
     if let Trouble::Nothing = t {
-        text::say_number(out, text::MADE, pages as usize);
-        sheet::put_end(out);
+        text::say_number(rt, out, text::MADE, pages as usize);
+        sheet::put_end(rt, out);
     }
     t
 }

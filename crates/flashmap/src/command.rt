@@ -6,7 +6,7 @@ use shell::{file, text};
 use tool::number::Number;
 use tool::word;
 
-#[derive(Drop)]
+#[derive(Clone, Copy)]
 pub enum Verb {
     Check,
     List,
@@ -22,39 +22,25 @@ pub enum Verb {
 
 // The verb that a word is, of those with a word after them, or two.
 fn long_verb(s: &[u8]) -> Verb {
-    if check::same(s, b"fetch") {
-        return Verb::Fetch;
+    match s {
+        b"fetch" => Verb::Fetch,
+        b"remove" => Verb::Remove,
+        b"blank" => Verb::Blank,
+        b"store" => Verb::Store,
+        _ => Verb::Unknown,
     }
-    if check::same(s, b"remove") {
-        return Verb::Remove;
-    }
-    if check::same(s, b"blank") {
-        return Verb::Blank;
-    }
-    if check::same(s, b"store") {
-        return Verb::Store;
-    }
-    Verb::Unknown
 }
 
 // The verb that a word is.
 fn verb_of(s: &[u8]) -> Verb {
-    if check::same(s, b"check") {
-        return Verb::Check;
+    match s {
+        b"check" => Verb::Check,
+        b"list" => Verb::List,
+        b"walk" => Verb::Walk,
+        b"draw" => Verb::Draw,
+        b"erase" => Verb::Erase,
+        _ => long_verb(s),
     }
-    if check::same(s, b"list") {
-        return Verb::List;
-    }
-    if check::same(s, b"walk") {
-        return Verb::Walk;
-    }
-    if check::same(s, b"draw") {
-        return Verb::Draw;
-    }
-    if check::same(s, b"erase") {
-        return Verb::Erase;
-    }
-    long_verb(s)
 }
 
 // How many words a command with this verb has; 0 where there is no such verb.
@@ -74,11 +60,20 @@ fn length(v: Verb) -> usize {
 }
 
 // A verb on an image and a key.
-fn on_key(v: Verb, img: &mut [u8], page: usize, key: u32, line: &[u8], out: &mut [u8]) -> Trouble {
+fn on_key(
+    rt: &HostRuntime,
+    v: Verb,
+    img: &mut [u8],
+    page: usize,
+    key: u32,
+    line: &[u8],
+    out: &mut [u8],
+) -> Trouble {
     match v {
-        Verb::Fetch => listing::fetch(img, page, key, out),
-        Verb::Remove => change::remove(img, page, key, word::word(line, 0), out),
+        Verb::Fetch => listing::fetch(rt, img, page, key, out),
+        Verb::Remove => change::remove(rt, img, page, key, word::word(line, 0), out),
         _ => change::store(
+            rt,
             img,
             page,
             key,
@@ -90,46 +85,60 @@ fn on_key(v: Verb, img: &mut [u8], page: usize, key: u32, line: &[u8], out: &mut
 }
 
 // A verb on an image.
-fn on_image(v: Verb, img: &mut [u8], page: usize, line: &[u8], out: &mut [u8]) -> Trouble {
+fn on_image(
+    rt: &HostRuntime,
+    v: Verb,
+    img: &mut [u8],
+    page: usize,
+    line: &[u8],
+    out: &mut [u8],
+) -> Trouble {
     match v {
-        Verb::Check => pages::check(img, page, out),
-        Verb::List => listing::list(img, page, out),
-        Verb::Walk => listing::walk(img, page, out),
-        Verb::Draw => pages::draw(img, page, out),
-        Verb::Erase => change::erase(img, page, word::word(line, 0), out),
+        Verb::Check => pages::check(rt, img, page, out),
+        Verb::List => listing::list(rt, img, page, out),
+        Verb::Walk => listing::walk(rt, img, page, out),
+        Verb::Draw => pages::draw(rt, img, page, out),
+        Verb::Erase => change::erase(rt, img, page, word::word(line, 0), out),
         _ => {
             let k = tool::number::read(word::word(line, 3));
             match k {
                 Number::Bad => Trouble::Bad(Part::Key),
-                Number::Is(key) => on_key(v, img, page, key, line, out),
+                Number::Is(key) => on_key(rt, v, img, page, key, line, out),
             }
         }
     }
 }
 
 // A new image.
-fn make(room: &mut [u8], page: u32, line: &[u8], out: &mut [u8]) -> Trouble {
+fn make(rt: &HostRuntime, room: &mut [u8], page: u32, line: &[u8], out: &mut [u8]) -> Trouble {
     let k = tool::number::read(word::word(line, 3));
     match k {
         Number::Bad => Trouble::Bad(Part::Pages),
-        Number::Is(n) => change::blank(room, page, n, word::word(line, 0), out),
+        Number::Is(n) => change::blank(rt, room, page, n, word::word(line, 0), out),
     }
 }
 
 // A verb on the image in a file, or the making of one.
-fn on_file(v: Verb, room: &mut [u8], page: u32, line: &[u8], out: &mut [u8]) -> Trouble {
+fn on_file(
+    rt: &HostRuntime,
+    v: Verb,
+    room: &mut [u8],
+    page: u32,
+    line: &[u8],
+    out: &mut [u8],
+) -> Trouble {
     if let Verb::Blank = v {
-        return make(room, page, line, out);
+        return make(rt, room, page, line, out);
     }
-    let got = file::load(word::word(line, 0), room);
+    let got = file::load(rt, word::word(line, 0), room);
     match got {
         Loaded::Not(t) => t,
-        Loaded::Bytes(n) => on_image(v, word::head_mut(room, n), page as usize, line, out),
+        Loaded::Bytes(n) => on_image(rt, v, word::head_mut(room, n), page as usize, line, out),
     }
 }
 
 // A command on an image: IMAGE PAGE VERB ..
-fn on_words(line: &[u8], n: usize, room: &mut [u8], out: &mut [u8]) -> Trouble {
+fn on_words(rt: &HostRuntime, line: &[u8], n: usize, room: &mut [u8], out: &mut [u8]) -> Trouble {
     let v = verb_of(word::word(line, 2));
     let most = length(v);
     if most == 0 {
@@ -141,34 +150,34 @@ fn on_words(line: &[u8], n: usize, room: &mut [u8], out: &mut [u8]) -> Trouble {
     let k = tool::number::read(word::word(line, 1));
     match k {
         Number::Bad => Trouble::Bad(Part::Page),
-        Number::Is(page) => on_file(v, room, page, line, out),
+        Number::Is(page) => on_file(rt, v, room, page, line, out),
     }
 }
 
 // A command of one word.
-fn alone(s: &[u8], room: &mut [u8], out: &mut [u8]) -> Trouble {
-    if check::same(s, b"help") {
-        text::say_help(out);
-        return Trouble::Nothing;
+fn alone(rt: &HostRuntime, s: &[u8], room: &mut [u8], out: &mut [u8]) -> Trouble {
+    match s {
+        b"help" => {
+            text::say_help(rt, out);
+            Trouble::Nothing
+        }
+        b"demo" => demo::run(rt, room, out),
+        _ => Trouble::Words,
     }
-    if check::same(s, b"demo") {
-        return demo::run(room, out);
-    }
-    Trouble::Words
 }
 
 // A command, as a line of words; no word asks for help.
-pub fn run(line: &[u8], room: &mut [u8], out: &mut [u8]) -> Trouble {
+pub fn run(rt: &HostRuntime, line: &[u8], room: &mut [u8], out: &mut [u8]) -> Trouble {
     let n = word::count(line);
     if n == 0 {
-        text::say_help(out);
+        text::say_help(rt, out);
         return Trouble::Nothing;
     }
     if n == 1 {
-        return alone(word::word(line, 0), room, out);
+        return alone(rt, word::word(line, 0), room, out);
     }
     if n == 2 {
         return Trouble::Words;
     }
-    on_words(line, n, room, out)
+    on_words(rt, line, n, room, out)
 }

@@ -46,21 +46,21 @@ fn season(img: &mut [u8]) -> u32 {
 }
 
 // The season, drawn and listed.
-fn show(img: &mut [u8], out: &mut [u8]) -> Trouble {
+fn show(rt: &HostRuntime, img: &mut [u8], out: &mut [u8]) -> Trouble {
     map::erase_all(img, 128, listing::no_cache(), 0);
     let no = season(img);
     if no != 0 {
         return Trouble::Refused(no);
     }
-    text::say_line(out, text::SEASON);
-    sheet::put_end(out);
-    pages::draw(img, 128, out);
-    sheet::put_end(out);
-    text::say_line(out, text::TOTALS);
-    sheet::put_end(out);
-    listing::list(img, 128, out)
+    text::say_line(rt, out, text::SEASON);
+    sheet::put_end(rt, out);
+    pages::draw(rt, img, 128, out);
+    sheet::put_end(rt, out);
+    text::say_line(rt, out, text::TOTALS);
+    sheet::put_end(rt, out);
+    listing::list(rt, img, 128, out)
 }
 
-pub fn run(room: &mut [u8], out: &mut [u8]) -> Trouble {
-    show(tool::word::head_mut(room, 768), out)
+pub fn run(rt: &HostRuntime, room: &mut [u8], out: &mut [u8]) -> Trouble {
+    show(rt, tool::word::head_mut(room, 768), out)
 }

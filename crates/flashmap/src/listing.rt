@@ -6,7 +6,7 @@ use shell::trouble::Trouble;
 use shell::{sheet, text};
 
 // A walk's cursor, or why there is none.
-#[derive(Drop)]
+#[derive(Clone, Copy)]
 pub enum Start {
     At(Cursor),
     Not(Trouble),
@@ -21,17 +21,17 @@ pub fn no_cache() -> Cache {
 }
 
 // The newest value of a key.
-pub fn fetch(img: &[u8], page: usize, key: u32, out: &mut [u8]) -> Trouble {
+pub fn fetch(rt: &HostRuntime, img: &[u8], page: usize, key: u32, out: &mut [u8]) -> Trouble {
     let a = map::fetch_plain(img, page, key);
     match a {
         Answer::Value(place, len) => {
-            sheet::put_hex(out, map::view(img, place, len));
-            text::say_number(out, text::LENGTH, len);
-            sheet::put(out, b")\n");
+            sheet::put_hex(rt, out, map::view(img, place, len));
+            text::say_number(rt, out, text::LENGTH, len);
+            sheet::put(rt, out, b")\n");
             Trouble::Nothing
         }
         Answer::None => {
-            text::say_line(out, text::NONE);
+            text::say_line(rt, out, text::NONE);
             Trouble::Nothing
         }
         Answer::Corrupted => Trouble::Damaged,
@@ -58,24 +58,31 @@ fn begin(img: &mut [u8], page: usize) -> Start {
 }
 
 // A key, and its value's length and bytes.
-fn put_item(out: &mut [u8], key: u32, value: &[u8]) {
-    sheet::put_wide(out, key as usize, 10);
-    sheet::put_wide(out, value.len(), 7);
-    sheet::put(out, b"  ");
-    sheet::put_hex(out, value);
-    sheet::put_end(out);
+fn put_item(rt: &HostRuntime, out: &mut [u8], key: u32, value: &[u8]) {
+    sheet::put_wide(rt, out, key as usize, 10);
+    sheet::put_wide(rt, out, value.len(), 7);
+    sheet::put(rt, out, b"  ");
+    sheet::put_hex(rt, out, value);
+    sheet::put_end(rt, out);
 }
 
 // A version: the page and the place of its value, and its item.
-fn put_version(out: &mut [u8], page: usize, place: usize, key: u32, value: &[u8]) {
-    sheet::put_wide(out, pages::page_of(place, page), 4);
-    sheet::put_wide(out, place, 9);
-    sheet::put(out, b"  ");
-    put_item(out, key, value);
+fn put_version(
+    rt: &HostRuntime,
+    out: &mut [u8],
+    page: usize,
+    place: usize,
+    key: u32,
+    value: &[u8],
+) {
+    sheet::put_wide(rt, out, pages::page_of(place, page), 4);
+    sheet::put_wide(rt, out, place, 9);
+    sheet::put(rt, out, b"  ");
+    put_item(rt, out, key, value);
 }
 
 // All versions from a cursor on. No walk has more items than its image has bytes.
-fn put_walk(img: &[u8], page: usize, cursor: Cursor, out: &mut [u8]) {
+fn put_walk(rt: &HostRuntime, img: &[u8], page: usize, cursor: Cursor, out: &mut [u8]) {
     let mut c = cursor;
     let mut left = img.len();
     while 0 < left {
@@ -86,19 +93,19 @@ fn put_walk(img: &[u8], page: usize, cursor: Cursor, out: &mut [u8]) {
         };
         let next = s.cursor;
         c = next;
-        put_version(out, page, place, key, map::view(img, place, len));
+        put_version(rt, out, page, place, key, map::view(img, place, len));
         left -= 1;
     }
 }
 
 // All versions in ring order.
-pub fn walk(img: &mut [u8], page: usize, out: &mut [u8]) -> Trouble {
+pub fn walk(rt: &HostRuntime, img: &mut [u8], page: usize, out: &mut [u8]) -> Trouble {
     let s = begin(img, page);
     match s {
         Start::Not(t) => t,
         Start::At(c) => {
-            text::say_line(out, text::WALK_HEAD);
-            put_walk(img, page, c, out);
+            text::say_line(rt, out, text::WALK_HEAD);
+            put_walk(rt, img, page, c, out);
             Trouble::Nothing
         }
     }
@@ -124,6 +131,7 @@ fn keys_of(img: &[u8], page: usize, cursor: Cursor, keys: &mut [u32]) -> usize {
 
 // The newest value of a key whose last item in the walk is this one. On a sound image that item is it; else the map is asked.
 fn put_key(
+    rt: &HostRuntime,
     img: &[u8],
     page: usize,
     sound: bool,
@@ -133,29 +141,44 @@ fn put_key(
     out: &mut [u8],
 ) {
     if sound {
-        put_item(out, key, map::view(img, place, len));
+        put_item(rt, out, key, map::view(img, place, len));
         return;
     }
     let a = map::fetch_plain(img, page, key);
     let Answer::Value(p, n) = a else {
         return;
     };
-    put_item(out, key, map::view(img, p, n));
+    put_item(rt, out, key, map::view(img, p, n));
 }
 
 // The same, where the item is marked as the last of its key.
-fn put_marked(img: &[u8], page: usize, sound: bool, mark: u8, a: Answer, out: &mut [u8]) {
+fn put_marked(
+    rt: &HostRuntime,
+    img: &[u8],
+    page: usize,
+    sound: bool,
+    mark: u8,
+    a: Answer,
+    out: &mut [u8],
+) {
     if mark != 1 {
         return;
     }
     let Answer::Item(key, place, len) = a else {
         return;
     };
-    put_key(img, page, sound, key, place, len, out);
+    put_key(rt, img, page, sound, key, place, len, out);
 }
 
 // The newest value of each key in a walk from a cursor on; the marks say which items are the last of their keys.
-fn put_last(img: &[u8], page: usize, cursor: Cursor, marks: &[u8], out: &mut [u8]) {
+fn put_last(
+    rt: &HostRuntime,
+    img: &[u8],
+    page: usize,
+    cursor: Cursor,
+    marks: &[u8],
+    out: &mut [u8],
+) {
     let sound = pages::is_sound(img, page);
     let mut c = cursor;
     let mut k: usize = 0;
@@ -164,30 +187,30 @@ fn put_last(img: &[u8], page: usize, cursor: Cursor, marks: &[u8], out: &mut [u8
         let a = s.answer;
         let next = s.cursor;
         c = next;
-        put_marked(img, page, sound, marks[k], a, out);
+        put_marked(rt, img, page, sound, marks[k], a, out);
         k += 1;
     }
 }
 
 // The newest value of each key from a cursor on. An item has at least 12 bytes, so each key of 2 MiB has room.
-fn put_newest(img: &[u8], page: usize, cursor: Cursor, out: &mut [u8]) {
+fn put_newest(rt: &HostRuntime, img: &[u8], page: usize, cursor: Cursor, out: &mut [u8]) {
     let mut keys = [0u32; 174763];
     let mut next = [0u32; 174763];
     let mut table = [0u32; 131071];
     let mut marks = [0u8; 174763];
     let n = keys_of(img, page, cursor, &mut keys);
     tool::last::mark_head(&keys, n, &mut table, &mut next, &mut marks);
-    put_last(img, page, cursor, tool::word::head(&marks, n), out);
+    put_last(rt, img, page, cursor, tool::word::head(&marks, n), out);
 }
 
 // The newest value of each key, in the order in which the walk lists them.
-pub fn list(img: &mut [u8], page: usize, out: &mut [u8]) -> Trouble {
+pub fn list(rt: &HostRuntime, img: &mut [u8], page: usize, out: &mut [u8]) -> Trouble {
     let s = begin(img, page);
     match s {
         Start::Not(t) => t,
         Start::At(c) => {
-            text::say_line(out, text::LIST_HEAD);
-            put_newest(img, page, c, out);
+            text::say_line(rt, out, text::LIST_HEAD);
+            put_newest(rt, img, page, c, out);
             Trouble::Nothing
         }
     }

@@ -5,17 +5,17 @@ use shell::trouble::Trouble;
 use shell::{sheet, text};
 
 // Why a page is not sound.
-fn say_page(out: &mut [u8], q: usize, k: usize) -> Trouble {
-    text::say_number(out, text::NOT_SOUND, q);
-    text::say_line(out, k);
+fn say_page(rt: &HostRuntime, out: &mut [u8], q: usize, k: usize) -> Trouble {
+    text::say_number(rt, out, text::NOT_SOUND, q);
+    text::say_line(rt, out, k);
     Trouble::Unsound
 }
 
 // Why a byte of a page is not sound.
-fn say_byte(out: &mut [u8], q: usize, k: usize, place: usize) -> Trouble {
-    text::say_number(out, text::NOT_SOUND, q);
-    text::say_number(out, k, place);
-    text::say_line(out, text::NOT_FF);
+fn say_byte(rt: &HostRuntime, out: &mut [u8], q: usize, k: usize, place: usize) -> Trouble {
+    text::say_number(rt, out, text::NOT_SOUND, q);
+    text::say_number(rt, out, k, place);
+    text::say_line(rt, out, text::NOT_FF);
     Trouble::Unsound
 }
 
@@ -26,21 +26,21 @@ pub fn is_sound(img: &[u8], page: usize) -> bool {
 }
 
 // sound, or the first reason why not.
-pub fn check(img: &[u8], page: usize, out: &mut [u8]) -> Trouble {
+pub fn check(rt: &HostRuntime, img: &[u8], page: usize, out: &mut [u8]) -> Trouble {
     let f = inspect::first_fault(img, page);
     match f {
         Fault::Nothing => {
-            text::say_line(out, text::SOUND);
+            text::say_line(rt, out, text::SOUND);
             Trouble::Nothing
         }
         Fault::Refused(no) => Trouble::Refused(no),
-        Fault::CorruptedPage(q) => say_page(out, q, text::CORRUPTED),
-        Fault::NoPartialOpen(q) => say_page(out, q, text::NO_PARTIAL),
-        Fault::SecondPartialOpen(q) => say_page(out, q, text::SECOND_PARTIAL),
-        Fault::NextNotOpen(q) => say_page(out, q, text::NEXT_NOT_OPEN),
-        Fault::OpenApart(q) => say_page(out, q, text::OPEN_APART),
-        Fault::DataNotBlank(q, place) => say_byte(out, q, text::DATA_NOT_BLANK, place),
-        Fault::TailNotBlank(q, place) => say_byte(out, q, text::TAIL_NOT_BLANK, place),
+        Fault::CorruptedPage(q) => say_page(rt, out, q, text::CORRUPTED),
+        Fault::NoPartialOpen(q) => say_page(rt, out, q, text::NO_PARTIAL),
+        Fault::SecondPartialOpen(q) => say_page(rt, out, q, text::SECOND_PARTIAL),
+        Fault::NextNotOpen(q) => say_page(rt, out, q, text::NEXT_NOT_OPEN),
+        Fault::OpenApart(q) => say_page(rt, out, q, text::OPEN_APART),
+        Fault::DataNotBlank(q, place) => say_byte(rt, out, q, text::DATA_NOT_BLANK, place),
+        Fault::TailNotBlank(q, place) => say_byte(rt, out, q, text::TAIL_NOT_BLANK, place),
     }
 }
 
@@ -60,7 +60,7 @@ fn small(n: usize) -> u16 {
 }
 
 // The 32 cells of a page's bar.
-fn put_bar(out: &mut [u8], t: Tally) {
+fn put_bar(rt: &HostRuntime, out: &mut [u8], t: &Tally) {
     let a = small(t.present);
     let b = small(t.removed);
     let c = small(t.damaged);
@@ -68,28 +68,28 @@ fn put_bar(out: &mut [u8], t: Tally) {
     let mut k: u8 = 0;
     while k < 32 {
         let one = [tool::bar::cell(k, a, b, c, d); 1];
-        sheet::put(out, &one);
+        sheet::put(rt, out, &one);
         k += 1;
     }
 }
 
 // The counts of a page's bytes.
-fn put_counts(out: &mut [u8], t: Tally) {
-    sheet::put(out, b"|");
-    sheet::put_wide(out, t.present, 7);
-    sheet::put_wide(out, t.removed, 8);
-    sheet::put_wide(out, t.damaged, 8);
-    sheet::put_wide(out, t.free, 8);
-    sheet::put_end(out);
+fn put_counts(rt: &HostRuntime, out: &mut [u8], t: &Tally) {
+    sheet::put(rt, out, b"|");
+    sheet::put_wide(rt, out, t.present, 7);
+    sheet::put_wide(rt, out, t.removed, 8);
+    sheet::put_wide(rt, out, t.damaged, 8);
+    sheet::put_wide(rt, out, t.free, 8);
+    sheet::put_end(rt, out);
 }
 
 // A page's line.
-fn put_page(out: &mut [u8], q: usize, t: Tally) {
+fn put_page(rt: &HostRuntime, out: &mut [u8], q: usize, t: Tally) {
     let s = t.state;
-    sheet::put_wide(out, q, 3);
-    text::say(out, state_text(s));
-    put_bar(out, t);
-    put_counts(out, t);
+    sheet::put_wide(rt, out, q, 3);
+    text::say(rt, out, state_text(s));
+    put_bar(rt, out, &t);
+    put_counts(rt, out, &t);
 }
 
 // The page of a place; the number of pages, at an image's end.
@@ -101,18 +101,18 @@ pub fn page_of(place: usize, page: usize) -> usize {
 }
 
 // A line for each page: its state, a bar of its bytes, and their counts.
-pub fn draw(img: &[u8], page: usize, out: &mut [u8]) -> Trouble {
+pub fn draw(rt: &HostRuntime, img: &[u8], page: usize, out: &mut [u8]) -> Trouble {
     let no = answer::number(map::try_new(page, img.len(), 0));
     if no != 0 {
         return Trouble::Refused(no);
     }
-    text::say_line(out, text::PAGES_HEAD);
+    text::say_line(rt, out, text::PAGES_HEAD);
     let n = page_of(img.len(), page);
     let mut q: usize = 0;
     while q < n {
-        put_page(out, q, inspect::tally_page(img, page, q));
+        put_page(rt, out, q, inspect::tally_page(img, page, q));
         q += 1;
     }
-    text::say_line(out, text::LEGEND);
+    text::say_line(rt, out, text::LEGEND);
     Trouble::Nothing
 }

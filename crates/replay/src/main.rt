@@ -1,14 +1,19 @@
 // Replays lists of calls and their answers on the public calls, and says what differs.
+#![tactic(auto)]
+
 mod score;
 mod turn;
 
 ghost use Rattle.std.specs.Prelude.{◌≡◌, length};
 
-use libc::STDOUT_FILENO;
 use lists::line;
 use lists::line::Line;
 use lists::play::Run;
 use score::Score;
+use std::env::FillError;
+use std::fs::File;
+use std::io::Read;
+use std::rt::{Env, Files};
 
 // The run and the score after some lines.
 #[derive(Drop)]
@@ -26,7 +31,7 @@ struct Reading {
 }
 
 // A line's end: its turn, unless a line before it couldn't be read, and the score.
-fn end_line(img: &mut [u8], space: &mut [u8], s: Stand, l: Line) -> Stand {
+fn end_line(rt: &impl Print, img: &mut [u8], space: &mut [u8], s: Stand, l: Line) -> Stand {
     let run = s.run;
     let score = s.score;
     if score.bad != 0 {
@@ -55,23 +60,26 @@ fn end_line(img: &mut [u8], space: &mut [u8], s: Stand, l: Line) -> Stand {
     let next = t.run;
     Stand {
         run: next,
-        score: score::called(score, l.letter == b'n', fate),
+        score: score::called(rt, score, l.letter == b'n', fate),
     }
 }
 
 // A piece of a list.
-fn take_bytes(img: &mut [u8], space: &mut [u8], bytes: &[u8], r: Reading) -> Reading {
+fn take_bytes(
+    rt: &impl Print,
+    img: &mut [u8],
+    space: &mut [u8],
+    bytes: &[u8],
+    r: Reading,
+) -> Reading {
     let mut line = r.line;
     let mut stand = r.stand;
-    let mut i: usize = 0;
-    while i < bytes.len() {
-        let b = bytes[i];
-        i += 1;
-        if b == b'\n' {
-            stand = end_line(img, space, stand, line);
+    for b in bytes {
+        if *b == b'\n' {
+            stand = end_line(rt, img, space, stand, line);
             line = line::blank();
         } else {
-            line = line::read_byte(line, b);
+            line = line::read_byte(line, *b);
         }
     }
     Reading {
@@ -81,11 +89,17 @@ fn take_bytes(img: &mut [u8], space: &mut [u8], bytes: &[u8], r: Reading) -> Rea
     }
 }
 
-// Reads once, and takes what came.
-fn take_some(fd: i32, img: &mut [u8], space: &mut [u8], r: Reading) -> Reading {
-    let mut piece = io::large_buffer();
-    let got = libc::read(fd, &mut piece);
-    if got <= 0 {
+// Reads once, and takes what came. A read that fails ends the list.
+fn take_some<P: Print, F: Read>(
+    rt: &P,
+    file: &mut F,
+    img: &mut [u8],
+    space: &mut [u8],
+    r: Reading,
+) -> Reading {
+    let mut piece = [0u8; 65536];
+    let n = file.read(&mut piece).unwrap_or(0);
+    if n == 0 {
         let line = r.line;
         let stand = r.stand;
         return Reading {
@@ -94,12 +108,11 @@ fn take_some(fd: i32, img: &mut [u8], space: &mut [u8], r: Reading) -> Reading {
             more: false,
         };
     }
-    let n = io::count(got, &piece);
-    take_bytes(img, space, &piece[..n], r)
+    take_bytes(rt, img, space, &piece[..n], r)
 }
 
-// A whole list. A proved loop has to end, and nothing says that a file does; so its turns are counted down.
-fn take_all(fd: i32, img: &mut [u8], space: &mut [u8]) -> Score {
+// A whole list. A proved loop has to end, and nothing says that a file does; so its turns are counted.
+fn take_all<P: Print, F: Read>(rt: &P, file: &mut F, img: &mut [u8], space: &mut [u8]) -> Score {
     let line = line::blank();
     let stand = Stand {
         run: turn::no_run(),
@@ -110,13 +123,11 @@ fn take_all(fd: i32, img: &mut [u8], space: &mut [u8]) -> Score {
         stand,
         more: true,
     };
-    let mut turns = u64::MAX;
-    while turns > 0 {
+    for _ in 0..u64::MAX {
         if !r.more {
             break;
         }
-        r = take_some(fd, img, space, r);
-        turns -= 1;
+        r = take_some(rt, file, img, space, r);
     }
     closed(r)
 }
@@ -132,19 +143,32 @@ fn closed(r: Reading) -> Score {
     score::unreadable(score)
 }
 
-// The list that an argument names.
-fn replay(arg: usize, img: &mut [u8], space: &mut [u8]) {
-    let mut path = io::buffer();
-    let n = os::arg(arg, &mut path);
-    io::write_all(STDOUT_FILENO, &path[..n]);
-    io::write_all(STDOUT_FILENO, b"\n");
-    let fd = os::open_read(&path[..n]);
-    if fd < 0 {
-        io::write_all(STDOUT_FILENO, b"  it can't be opened\n");
+// The file at a path, to be read.
+fn open<R: Files>(rt: &R, path: &[u8]) -> Option<R::File> {
+    let name = str::from_utf8(path).ok()?;
+    File::open(rt, name).ok()
+}
+
+// The list at a path.
+fn replay_file<R: Files + Print>(rt: &R, path: &[u8], img: &mut [u8], space: &mut [u8]) {
+    score::write(rt, path);
+    score::write(rt, b"\n");
+    let Some(mut file) = open(rt, path) else {
+        score::write(rt, b"  it can't be opened\n");
         return;
+    };
+    score::report(rt, take_all(rt, &mut file, img, space));
+}
+
+// The list that an argument names; false where there is no such argument. One that is too long names no file.
+fn replay<R: Env + Files + Print>(rt: &R, arg: usize, img: &mut [u8], space: &mut [u8]) -> bool {
+    let mut path = [0u8; 4096];
+    match rt.arg(arg, &mut path) {
+        Ok(n) => replay_file(rt, &path[..n], img, space),
+        Err(FillError::TooLong) => replay_file(rt, b"", img, space),
+        Err(FillError::NotPresent) => return false,
     }
-    score::report(take_all(fd, img, space));
-    libc::close(fd);
+    true
 }
 
 // Room for the largest image of a list.
@@ -161,13 +185,12 @@ fn longest() -> [u8; 70000]
     [0; 70000]
 }
 
-fn main() {
+fn main(rt: HostRuntime) {
     let mut img = image();
     let mut space = longest();
-    let count = os::arg_count();
-    let mut k: usize = 1;
-    while k < count {
-        replay(k, &mut img, &mut space);
-        k += 1;
+    for k in 1..usize::MAX {
+        if !replay(&rt, k, &mut img, &mut space) {
+            break;
+        }
     }
 }

@@ -1,11 +1,10 @@
 // The count of a list's lines, and the report of it.
 use crate::turn::Fate;
-use libc::STDOUT_FILENO;
 use lists::line::Line;
 use std::num::wrapping_add_u64;
 
 // Lines read, runs and calls in them, calls that differ, the first line that can't be read (0: none), the end seen.
-#[derive(Drop)]
+#[derive(Clone, Copy)]
 pub struct Score {
     pub lines: u64,
     pub runs: u64,
@@ -66,10 +65,10 @@ pub fn ended(s: Score, l: Line) -> Score {
 }
 
 // A line with a call, the start of a run or another.
-pub fn called(s: Score, starts: bool, fate: Fate) -> Score {
+pub fn called(rt: &impl Print, s: Score, starts: bool, fate: Fate) -> Score {
     match fate {
         Fate::Equal => counted(s, starts),
-        Fate::Differs => differed(counted(s, starts)),
+        Fate::Differs => differed(rt, counted(s, starts)),
         Fate::Unreadable => unreadable(s),
     }
 }
@@ -85,39 +84,44 @@ fn counted(s: Score, starts: bool) -> Score {
 }
 
 // One more call that differs: the first 20 are named.
-fn differed(s: Score) -> Score {
+fn differed(rt: &impl Print, s: Score) -> Score {
     let mut t = s;
     t.wrong = one_more(s.wrong);
     if t.wrong <= 20 {
-        say(b"  line ", t.lines);
-        io::write_all(STDOUT_FILENO, b" differs\n");
+        say(rt, b"  line ", t.lines);
+        write(rt, b" differs\n");
     }
     t
 }
 
+// Words to standard output. Where they can't be written, they are let go.
+pub fn write(rt: &impl Print, words: &[u8]) {
+    let _ = rt.write_all(words);
+}
+
 // Words and a number, to standard output.
-fn say(words: &[u8], number: u64) {
-    io::write_all(STDOUT_FILENO, words);
-    io::print_decimal(STDOUT_FILENO, number);
+fn say(rt: &impl Print, words: &[u8], number: u64) {
+    write(rt, words);
+    let _ = rt.print(number);
 }
 
 // What a list's count says.
-pub fn report(s: Score) {
-    say(b"  ", s.calls);
-    say(b" calls in ", s.runs);
-    say(b" runs, ", s.wrong);
-    io::write_all(STDOUT_FILENO, b" differ\n");
+pub fn report(rt: &impl Print, s: Score) {
+    say(rt, b"  ", s.calls);
+    say(rt, b" calls in ", s.runs);
+    say(rt, b" runs, ", s.wrong);
+    write(rt, b" differ\n");
     if s.bad != 0 {
-        say(b"  line ", s.bad);
-        io::write_all(STDOUT_FILENO, b" can't be read\n");
+        say(rt, b"  line ", s.bad);
+        write(rt, b" can't be read\n");
         return;
     }
     if !s.ended {
-        io::write_all(STDOUT_FILENO, b"  the list has no end\n");
+        write(rt, b"  the list has no end\n");
         return;
     }
     if s.wrong == 0 {
-        io::write_all(STDOUT_FILENO, b"  all answers are equal\n");
+        write(rt, b"  all answers are equal\n");
     }
 }
 

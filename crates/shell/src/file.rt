@@ -1,85 +1,131 @@
 // Whole files: read, made anew, put in the place of another.
+use crate::trouble;
 use crate::trouble::{Deed, Trouble};
+use std::fs::{File, OpenOptions};
+use std::io::{Read, Write};
+use std::{fs, io, str};
 use tool::word;
 
 // A file at the start of a buffer: its length; or why it is not there.
-#[derive(Drop)]
+#[derive(Clone, Copy)]
 pub enum Loaded {
     Bytes(usize),
     Not(Trouble),
 }
 
-// The whole of an open file, at the start of room.
-fn read_all(fd: i32, room: &mut [u8]) -> Loaded {
-    let n = io::read_full(fd, room);
+// Why the system refused a deed.
+fn refused(deed: Deed, e: io::Error) -> Trouble {
+    Trouble::System(deed, e.raw_os_error().unwrap_or(0))
+}
+
+// A path as std takes it: text in UTF-8.
+fn path_text(path: &[u8]) -> io::Result<&str> {
+    match str::from_utf8(path) {
+        Ok(text) => Ok(text),
+        Err(_) => Err(io::Error::from(io::ErrorKind::InvalidFilename)),
+    }
+}
+
+// The bytes of an open file at the start of room, up to its end or that of room: how many.
+fn read_full(file: &mut File, room: &mut [u8]) -> io::Result<usize> {
+    let mut done: usize = 0;
+    while done < room.len() {
+        let n = file.read(&mut room[done..])?;
+        if n == 0 {
+            return Ok(done);
+        }
+        done += n;
+    }
+    Ok(done)
+}
+
+// Has an open file no more bytes?
+fn has_ended(file: &mut File) -> io::Result<bool> {
     let mut one = [0u8; 1];
-    let more = libc::read(fd, &mut one);
-    if more < 0 {
-        return Loaded::Not(Trouble::System(Deed::Read, os::errno()));
+    let n = file.read(&mut one)?;
+    Ok(n == 0)
+}
+
+// The whole of an open file, at the start of room: its length, and whether it had room.
+fn read_whole(file: &mut File, room: &mut [u8]) -> io::Result<(usize, bool)> {
+    let n = read_full(file, room)?;
+    let whole = has_ended(file)?;
+    Ok((n, whole))
+}
+
+// The whole of an open file, at the start of room.
+fn read_all(file: &mut File, room: &mut [u8]) -> Loaded {
+    match read_whole(file, room) {
+        Err(e) => Loaded::Not(refused(Deed::Read, e)),
+        Ok((n, true)) => Loaded::Bytes(n),
+        Ok((_, false)) => Loaded::Not(Trouble::Large),
     }
-    if more > 0 {
-        return Loaded::Not(Trouble::Large);
-    }
-    Loaded::Bytes(n)
+}
+
+// The file at path, open for reading.
+fn open(rt: &HostRuntime, path: &[u8]) -> io::Result<File> {
+    File::open(rt, path_text(path)?)
 }
 
 // The whole file at path, at the start of room.
-pub fn load(path: &[u8], room: &mut [u8]) -> Loaded {
-    let fd = os::open_read(path);
-    if fd < 0 {
-        return Loaded::Not(Trouble::System(Deed::Open, os::errno()));
+pub fn load(rt: &HostRuntime, path: &[u8], room: &mut [u8]) -> Loaded {
+    match open(rt, path) {
+        Err(e) => Loaded::Not(refused(Deed::Open, e)),
+        Ok(mut file) => read_all(&mut file, room),
     }
-    let got = read_all(fd, room);
-    libc::close(fd);
-    got
 }
 
-// The bytes down to the device, and the file closed.
-fn save(fd: i32, image: &[u8]) -> Trouble {
-    if !io::write_all(fd, image) {
-        let e = os::errno();
-        libc::close(fd);
-        return Trouble::System(Deed::Write, e);
+// A new file at path, open for writing.
+fn create(rt: &HostRuntime, path: &[u8]) -> io::Result<File> {
+    OpenOptions::new()
+        .write(true)
+        .create_new(true)
+        .open(rt, path_text(path)?)
+}
+
+// The bytes down to the device.
+fn save(file: &mut File, image: &[u8]) -> io::Result<()> {
+    file.write_all(image)?;
+    file.sync_all()
+}
+
+// The file at path goes, where it can.
+fn remove(rt: &HostRuntime, path: &[u8]) {
+    if let Ok(text) = path_text(path) {
+        let _ = fs::remove_file(rt, text);
     }
-    if libc::fsync(fd) < 0 {
-        let e = os::errno();
-        libc::close(fd);
-        return Trouble::System(Deed::Write, e);
-    }
-    if libc::close(fd) < 0 {
-        return Trouble::System(Deed::Write, os::errno());
-    }
-    Trouble::Nothing
 }
 
 // A new file with these bytes; taken where there is one of this name. A file that can't be written whole goes again.
-pub fn make(path: &[u8], image: &[u8], taken: Trouble) -> Trouble {
-    let fd = os::create(path);
-    if fd < 0 {
-        let e = os::errno();
-        if e == libc::EEXIST {
-            return taken;
+pub fn make(rt: &HostRuntime, path: &[u8], image: &[u8], taken: Trouble) -> Trouble {
+    match create(rt, path) {
+        Err(e) => match refused(Deed::Make, e) {
+            Trouble::System(_, trouble::EEXIST) => taken,
+            t => t,
+        },
+        Ok(mut file) => {
+            if let Err(e) = save(&mut file, image) {
+                remove(rt, path);
+                return refused(Deed::Write, e);
+            }
+            Trouble::Nothing
         }
-        return Trouble::System(Deed::Make, e);
     }
-    let t = save(fd, image);
-    if let Trouble::Nothing = t {
-        return t;
-    }
-    os::unlink(path);
-    t
+}
+
+// A file takes the name path.
+fn rename(rt: &HostRuntime, from: &[u8], path: &[u8]) -> io::Result<()> {
+    fs::rename(rt, path_text(from)?, path_text(path)?)
 }
 
 // The bytes in a new file, which then takes the name path.
-fn swap(path: &[u8], other: &[u8], image: &[u8]) -> Trouble {
-    let t = make(other, image, Trouble::Halfway);
+fn swap(rt: &HostRuntime, path: &[u8], other: &[u8], image: &[u8]) -> Trouble {
+    let t = make(rt, other, image, Trouble::Halfway);
     if let Trouble::Nothing = t {
-        if os::rename(other, path) < 0 {
-            let e = os::errno();
-            os::unlink(other);
-            return Trouble::System(Deed::Rename, e);
+        if let Err(e) = rename(rt, other, path) {
+            remove(rt, other);
+            return refused(Deed::Rename, e);
         }
-        return t;
     }
     t
 }
@@ -93,18 +139,18 @@ fn new_name(path: &[u8], room: &mut [u8]) -> usize {
     if room.len() - 4 < n {
         return 0;
     }
-    bytes::copy(path, room);
-    bytes::copy(b".new", &mut room[n..]);
+    room[..n].copy_from_slice(path);
+    room[n..n + 4].copy_from_slice(b".new");
     n + 4
 }
 
 // The bytes in the place of the file at path. They go to a file with .new after its name, so the old file stays until the new one
 // is whole.
-pub fn replace(path: &[u8], image: &[u8]) -> Trouble {
-    let mut room = io::buffer();
+pub fn replace(rt: &HostRuntime, path: &[u8], image: &[u8]) -> Trouble {
+    let mut room = [0u8; 4096];
     let n = new_name(path, &mut room);
     if n == 0 {
-        return Trouble::System(Deed::Make, libc::ENAMETOOLONG);
+        return Trouble::System(Deed::Make, trouble::ENAMETOOLONG);
     }
-    swap(path, word::head(&room, n), image)
+    swap(rt, path, word::head(&room, n), image)
 }

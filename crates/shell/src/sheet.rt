@@ -3,6 +3,8 @@
 // so at most 65,535 wait.
 ghost use Rattle.std.specs.Prelude.{◌≤◌, length};
 
+use itoa::Buffer;
+
 fn wide(b: u8) -> usize
     ensures { result ≤ 255 }
 {
@@ -49,20 +51,29 @@ pub fn open(out: &mut [u8], to: u8) {
     set_head(out, to, 3);
 }
 
+// Writes all of a text where a sheet goes; false where it can't.
+fn write_all(rt: &HostRuntime, to: u8, text: &[u8]) -> bool {
+    match to {
+        1 => rt.stdout().write_all(text).is_ok(),
+        2 => rt.stderr().write_all(text).is_ok(),
+        _ => false,
+    }
+}
+
 // Writes text where the sheet goes; after a failed write it goes nowhere.
-fn write(out: &mut [u8], text: &[u8]) {
+fn write(rt: &HostRuntime, out: &mut [u8], text: &[u8]) {
     let to = goes(out);
     if to == 0 {
         return;
     }
-    if io::write_all(to as i32, text) {
+    if write_all(rt, to, text) {
         return;
     }
     set_head(out, 0, 3);
 }
 
 // Writes what waits.
-pub fn flush(out: &mut [u8]) {
+pub fn flush(rt: &HostRuntime, out: &mut [u8]) {
     let e = end(out);
     let to = goes(out);
     if e < 4 {
@@ -71,7 +82,7 @@ pub fn flush(out: &mut [u8]) {
     if to == 0 {
         return;
     }
-    if io::write_all(to as i32, &out[3..e]) {
+    if write_all(rt, to, &out[3..e]) {
         set_head(out, to, 3);
         return;
     }
@@ -87,41 +98,41 @@ fn add(out: &mut [u8], text: &[u8]) -> bool {
     if 65538 < e + text.len() {
         return false;
     }
-    let n = bytes::copy(text, &mut out[e..]);
+    let n = e + text.len();
+    out[e..n].copy_from_slice(text);
     let to = goes(out);
-    set_head(out, to, e + n);
+    set_head(out, to, n);
     true
 }
 
 // Text after what waits; one that is longer than the sheet is written at once.
-pub fn put(out: &mut [u8], text: &[u8]) {
+pub fn put(rt: &HostRuntime, out: &mut [u8], text: &[u8]) {
     if add(out, text) {
         return;
     }
-    flush(out);
+    flush(rt, out);
     if add(out, text) {
         return;
     }
-    write(out, text);
+    write(rt, out, text);
 }
 
 // The end of a line.
-pub fn put_end(out: &mut [u8]) {
-    put(out, b"\n");
+pub fn put_end(rt: &HostRuntime, out: &mut [u8]) {
+    put(rt, out, b"\n");
 }
 
 // A number in decimal.
-pub fn put_number(out: &mut [u8], n: usize) {
-    let mut text = [0u8; 20];
-    let k = io::decimal(n as u64, &mut text);
-    put(out, &text[..k]);
+pub fn put_number(rt: &HostRuntime, out: &mut [u8], n: usize) {
+    let mut digits = Buffer::new();
+    put(rt, out, digits.format(n).as_bytes());
 }
 
 // So many spaces.
-fn put_spaces(out: &mut [u8], n: usize) {
+fn put_spaces(rt: &HostRuntime, out: &mut [u8], n: usize) {
     let mut left = n;
     while 0 < left {
-        put(out, b" ");
+        put(rt, out, b" ");
         left -= 1;
     }
 }
@@ -132,23 +143,23 @@ fn gap(width: usize, n: usize) -> usize {
 }
 
 // A number in decimal, with spaces before it up to a width.
-pub fn put_wide(out: &mut [u8], n: usize, width: usize) {
-    let mut text = [0u8; 20];
-    let k = io::decimal(n as u64, &mut text);
-    put_spaces(out, gap(width, k));
-    put(out, &text[..k]);
+pub fn put_wide(rt: &HostRuntime, out: &mut [u8], n: usize, width: usize) {
+    let mut digits = Buffer::new();
+    let text = digits.format(n).as_bytes();
+    put_spaces(rt, out, gap(width, text.len()));
+    put(rt, out, text);
 }
 
 // Bytes in hexadecimal; a line for none.
-pub fn put_hex(out: &mut [u8], value: &[u8]) {
+pub fn put_hex(rt: &HostRuntime, out: &mut [u8], value: &[u8]) {
     if value.len() == 0 {
-        put(out, b"-");
+        put(rt, out, b"-");
         return;
     }
     let mut i: usize = 0;
     while i < value.len() {
         let two = tool::hex::show(value[i]);
-        put(out, &two);
+        put(rt, out, &two);
         i += 1;
     }
 }

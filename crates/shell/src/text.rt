@@ -1,5 +1,6 @@
 // What the program says: every text, a line each, named by its line's number, from 0.
 use crate::sheet;
+use tool::scan;
 
 pub const WORDS: usize = 0;
 
@@ -134,24 +135,25 @@ pub const HELP: usize = 67;
 pub const LAST: usize = 88;
 
 // Line k of a text; nothing where there is none.
-fn put_line(out: &mut [u8], text: &[u8], k: usize) {
+fn put_line(rt: &HostRuntime, out: &mut [u8], text: &[u8], k: usize) {
     let mut from: usize = 0;
     let mut left = k;
     while 0 < left {
-        let e = bytes::scan::find(text, from, text.len(), 10);
+        let e = scan::find(text, from, text.len(), 10);
         if e == text.len() {
             return;
         }
         from = e + 1;
         left -= 1;
     }
-    let e = bytes::scan::find(text, from, text.len(), 10);
-    sheet::put(out, &text[from..e]);
+    let e = scan::find(text, from, text.len(), 10);
+    sheet::put(rt, out, &text[from..e]);
 }
 
 // The text of this number.
-pub fn say(out: &mut [u8], k: usize) {
+pub fn say(rt: &HostRuntime, out: &mut [u8], k: usize) {
     put_line(
+        rt,
         out,
         b"these words are no command; \"flashmap help\" shows each command with its words
 the words are too long; give a path of at most 4095 bytes, and at most 32748 bytes of value
@@ -246,23 +248,23 @@ flashmap, or a comment that begins with #.",
 }
 
 // The text of this number, as a line.
-pub fn say_line(out: &mut [u8], k: usize) {
-    say(out, k);
-    sheet::put_end(out);
+pub fn say_line(rt: &HostRuntime, out: &mut [u8], k: usize) {
+    say(rt, out, k);
+    sheet::put_end(rt, out);
 }
 
 // The text of this number, a space and a number.
-pub fn say_number(out: &mut [u8], k: usize, n: usize) {
-    say(out, k);
-    sheet::put(out, b" ");
-    sheet::put_number(out, n);
+pub fn say_number(rt: &HostRuntime, out: &mut [u8], k: usize, n: usize) {
+    say(rt, out, k);
+    sheet::put(rt, out, b" ");
+    sheet::put_number(rt, out, n);
 }
 
 // The help: one screen.
-pub fn say_help(out: &mut [u8]) {
+pub fn say_help(rt: &HostRuntime, out: &mut [u8]) {
     let mut k = HELP;
     while k < LAST {
-        say_line(out, k);
+        say_line(rt, out, k);
         k += 1;
     }
 }

@@ -2,8 +2,25 @@
 use crate::{sheet, text};
 use tool::word;
 
+// The system's numbers of why it refused.
+const ENOENT: i32 = 2;
+
+const EACCES: i32 = 13;
+
+pub(crate) const EEXIST: i32 = 17;
+
+const ENOTDIR: i32 = 20;
+
+const EISDIR: i32 = 21;
+
+const ENOSPC: i32 = 28;
+
+const EROFS: i32 = 30;
+
+pub(crate) const ENAMETOOLONG: i32 = 36;
+
 // A word of a command.
-#[derive(Drop)]
+#[derive(Clone, Copy)]
 pub enum Part {
     Page,
     Verb,
@@ -13,7 +30,7 @@ pub enum Part {
 }
 
 // What the system was asked.
-#[derive(Drop)]
+#[derive(Clone, Copy)]
 pub enum Deed {
     Open,
     Read,
@@ -22,13 +39,13 @@ pub enum Deed {
     Rename,
 }
 
-#[derive(Drop)]
+#[derive(Clone, Copy)]
 pub enum Trouble {
     Nothing,
     Words, // too few words, or too many
     Long, // the words have no room
     Bad(Part), // a word says nothing
-    System(Deed, i32), // the system refused, with this errno
+    System(Deed, i32), // the system refused, with this errno; 0 where it gave none
     Large, // the file has no room
     Refused(u32), // the map refused, with this answer's number
     Damaged, // a look was answered Corrupted
@@ -48,25 +65,25 @@ pub fn is_nothing(t: Trouble) -> bool {
 
 // The system's reason.
 fn reason(errno: i32) -> usize {
-    if errno == libc::ENOENT {
+    if errno == ENOENT {
         return text::NO_FILE;
     }
-    if errno == libc::EACCES {
+    if errno == EACCES {
         return text::NO_PERMISSION;
     }
-    if errno == libc::EISDIR {
+    if errno == EISDIR {
         return text::FOLDER;
     }
-    if errno == libc::ENOTDIR {
+    if errno == ENOTDIR {
         return text::NO_FOLDER;
     }
-    if errno == libc::ENOSPC {
+    if errno == ENOSPC {
         return text::DISK_FULL;
     }
-    if errno == libc::EROFS {
+    if errno == EROFS {
         return text::READ_ONLY;
     }
-    if errno == libc::ENAMETOOLONG {
+    if errno == ENAMETOOLONG {
         return text::PATH_LONG;
     }
     text::OTHER
@@ -114,47 +131,47 @@ fn refusal_text(no: u32) -> usize {
 }
 
 // A word that says nothing, in quotes, and what to give.
-fn tell_part(out: &mut [u8], part: Part, line: &[u8]) {
-    sheet::put(out, b"\"");
-    sheet::put(out, word::word(line, part_word(part)));
-    sheet::put(out, b"\" ");
-    text::say_line(out, part_text(part));
+fn tell_part(rt: &HostRuntime, out: &mut [u8], part: Part, line: &[u8]) {
+    sheet::put(rt, out, b"\"");
+    sheet::put(rt, out, word::word(line, part_word(part)));
+    sheet::put(rt, out, b"\" ");
+    text::say_line(rt, out, part_text(part));
 }
 
 // A path, and what is the matter with it.
-fn tell_path(out: &mut [u8], path: &[u8], k: usize) {
-    sheet::put(out, path);
-    sheet::put(out, b": ");
-    text::say(out, k);
+fn tell_path(rt: &HostRuntime, out: &mut [u8], path: &[u8], k: usize) {
+    sheet::put(rt, out, path);
+    sheet::put(rt, out, b": ");
+    text::say(rt, out, k);
 }
 
 // What the system was asked, and why it refused.
-fn tell_deed(out: &mut [u8], path: &[u8], deed: Deed, errno: i32) {
-    tell_path(out, path, deed_text(deed));
-    sheet::put(out, b" (");
-    text::say(out, reason(errno));
-    sheet::put(out, b")\n");
+fn tell_deed(rt: &HostRuntime, out: &mut [u8], path: &[u8], deed: Deed, errno: i32) {
+    tell_path(rt, out, path, deed_text(deed));
+    sheet::put(rt, out, b" (");
+    text::say(rt, out, reason(errno));
+    sheet::put(rt, out, b")\n");
 }
 
 // What is the matter with a file.
-fn tell_file(out: &mut [u8], path: &[u8], k: usize) {
-    tell_path(out, path, k);
-    sheet::put_end(out);
+fn tell_file(rt: &HostRuntime, out: &mut [u8], path: &[u8], k: usize) {
+    tell_path(rt, out, path, k);
+    sheet::put_end(rt, out);
 }
 
 // The sentence of a trouble with the file at path, for the command of these words.
-pub fn tell(out: &mut [u8], t: Trouble, line: &[u8], path: &[u8]) {
+pub fn tell(rt: &HostRuntime, out: &mut [u8], t: Trouble, line: &[u8], path: &[u8]) {
     match t {
         Trouble::Nothing => {}
-        Trouble::Words => text::say_line(out, text::WORDS),
-        Trouble::Long => text::say_line(out, text::LONG),
-        Trouble::Bad(part) => tell_part(out, part, line),
-        Trouble::System(deed, errno) => tell_deed(out, path, deed, errno),
-        Trouble::Large => tell_file(out, path, text::LARGE),
-        Trouble::Refused(no) => tell_file(out, path, refusal_text(no)),
-        Trouble::Damaged => tell_file(out, path, text::DAMAGED),
-        Trouble::Unsound => tell_file(out, path, text::UNSOUND),
-        Trouble::Exists => tell_file(out, path, text::EXISTS),
-        Trouble::Halfway => tell_file(out, path, text::HALFWAY),
+        Trouble::Words => text::say_line(rt, out, text::WORDS),
+        Trouble::Long => text::say_line(rt, out, text::LONG),
+        Trouble::Bad(part) => tell_part(rt, out, part, line),
+        Trouble::System(deed, errno) => tell_deed(rt, out, path, deed, errno),
+        Trouble::Large => tell_file(rt, out, path, text::LARGE),
+        Trouble::Refused(no) => tell_file(rt, out, path, refusal_text(no)),
+        Trouble::Damaged => tell_file(rt, out, path, text::DAMAGED),
+        Trouble::Unsound => tell_file(rt, out, path, text::UNSOUND),
+        Trouble::Exists => tell_file(rt, out, path, text::EXISTS),
+        Trouble::Halfway => tell_file(rt, out, path, text::HALFWAY),
     }
 }

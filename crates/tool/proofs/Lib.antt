@@ -3,4 +3,5 @@ pub mod Bars
 pub mod Chains
 pub mod Pairs
 pub mod Numbers
+pub mod Found
 pub mod Words

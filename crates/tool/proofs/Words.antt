@@ -7,7 +7,7 @@ use native.Mathlib.Omega.{arith}
 use borrow.Author.Tests.{eq-eqb, ne_eqb}
 use lib.ListN.{length, get_or, take, drop, drop_of_length-le}
 use lib.Seq.{drop-cons, drop-drop, take-length}
-use Rattle.bytes.specs.Bytes.{index_of, slice}
+use Rattle.tool.specs.Scan.{index_of, slice}
 use Rattle.tool.specs.Words.{count_of, word_of, adds, parted}
 
 module _ (s : List ℕ) (i : ℕ) (h : i < length s) where

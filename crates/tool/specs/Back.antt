@@ -1,5 +1,5 @@
 -- What is shown can be typed: the digits of bytes spell these bytes. And examples at the borders.
-use Rattle.std.specs.Prelude.{◌≡◌, refl, Bool, true, false, List, [], ◌∷◌, ◌++◌, ℕ, ◌+◌, ◌-◌, ◌/◌, ◌%◌, ◌≤◌, ◌<◌, ltb}
+use Rattle.std.specs.Prelude.{◌≡◌, refl, Bool, true, false, List, [], ◌∷◌, ◌++◌, ℕ, ◌+◌, ◌/◌, ◌%◌, ◌≤◌, ◌<◌, ltb}
 use Rattle.std.proofs.Common.{ap₂, arith, lt-ltb, le-ltb, ltb-true, ltb-false}
 use Rattle.tool.specs.Numbers.{digit_of, all_digits, spell, settled, number_in, number_of}
 use Rattle.tool.specs.Hex.{glyph, pair, spelled}

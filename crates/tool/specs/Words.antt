@@ -1,6 +1,6 @@
 -- Words: a line of words has a 0 after each word.
 use Rattle.std.specs.Prelude.{cond, List, [], ◌∷◌, ◌++◌, ℕ, zero, suc, ◌+◌, take, drop, eqb, ltb}
-use Rattle.bytes.specs.Bytes.{index_of}
+use Rattle.tool.specs.Scan.{index_of}
 
 -- word k: the bytes before the first 0 after k others; none where the line has ended
 unfoldable pub word_of : ℕ → List ℕ → List ℕ

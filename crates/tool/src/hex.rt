@@ -5,7 +5,7 @@ ghost use Rattle.tool.specs.Hex.{glyph, pair, spelled, hex_answer};
 use crate::number::digit;
 
 // What typed bytes are: no pairs of digits, more than there is room for, or so many.
-#[derive(Drop)]
+#[derive(Clone, Copy)]
 pub enum Bytes {
     Bad,
     Long,

@@ -3,7 +3,7 @@ ghost use Rattle.std.specs.Prelude.{◌≡◌, ◌*◌, ◌<◌, ◌≤◌};
 ghost use Rattle.tool.specs.Numbers.{digit_of, number_in, number_of};
 
 // A number that fits 32 bits, or none.
-#[derive(Drop)]
+#[derive(Clone, Copy)]
 pub enum Number {
     Bad,
     Is(u32),

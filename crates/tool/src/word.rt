@@ -2,6 +2,8 @@
 ghost use Rattle.std.specs.Prelude.{◌≡◌, ◌++◌, ◌+◌, ◌≤◌, ◌<◌, length, take};
 ghost use Rattle.tool.specs.Words.{word_of, count_of, adds, parted};
 
+use crate::scan;
+
 // The first n bytes; all of them where there are fewer.
 pub fn head(s: &[u8], n: usize) -> &[u8]
     ensures { result.now ≡ take n s.now }
@@ -27,14 +29,14 @@ pub fn word(line: &[u8], k: usize) -> &[u8]
     let mut from: usize = 0;
     let mut left = k;
     while 0 < left {
-        let z = bytes::scan::find(line, from, line.len(), 0);
+        let z = scan::find(line, from, line.len(), 0);
         if z == line.len() {
             return &line[z..z];
         }
         from = z + 1;
         left -= 1;
     }
-    let e = bytes::scan::find(line, from, line.len(), 0);
+    let e = scan::find(line, from, line.len(), 0);
     &line[from..e]
 }
 
