@@ -1,7 +1,8 @@
 /* The charge totals of battery packs, kept in flash by a controller: pack number -> ticks of its charge sensor, a u32.
  *
- *     rt staticlib capi
- *     cc -std=c99 -Wall -Wextra -Werror -Iinclude examples/charge.c target/staticlib/libcapi.a -o target/charge
+ *     (cd crates/capi && rt lib)
+ *     mkdir -p target
+ *     cc -std=c99 -Wall -Wextra -Werror -Iinclude examples/charge.c crates/capi/out/libcapi.a -o target/charge
  *     target/charge
  *
  * The flash is an array here. Every answer is tested: one that is not expected ends the program with status 1.

@@ -1,8 +1,8 @@
 /* Werandumb: a key-value map on flash, for C.
  *
- * Link libcapi.a: target/staticlib/libcapi.a, made by `rt staticlib capi`, on x86-64; target/native/libcapi.a, made by
- * `tools/native`, on any machine that has the Rattle kit. It calls memcpy, memmove and memset and nothing else, takes no
- * memory and keeps nothing between calls.
+ * Link libcapi.a: for x86-64 crates/capi/out/libcapi.a, made by `rt lib` in crates/capi; for another machine
+ * target/native/libcapi.a, made by `tools/native MACHINE` where the Rattle kit is. It calls memcpy, memmove and memset and
+ * nothing else, takes no memory and keeps nothing between calls.
  *
  * A slice is a pointer and a length: bytes in image and value, words of 32 bits in cache, cursor and out, a number of 64
  * bits in power. No pointer is null, not even with length 0, and no two slices of a call overlap. Every call then ends and

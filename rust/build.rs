@@ -4,8 +4,10 @@ use std::env;
 use std::path::{Path, PathBuf};
 use std::process::exit;
 
-const HELP: &str = "Make it in the repository's root: `rt staticlib capi` on x86-64, `tools/native` on any machine. \
-                    Or set WERANDUMB_LIB to the file libcapi.a or to its folder (a full path, or one from rust/).";
+const HELP: &str =
+    "Make it for x86-64 by `rt lib` in crates/capi, for another machine by `tools/native MACHINE` in the \
+                    repository's root. Or set WERANDUMB_LIB to the file libcapi.a or to its folder (a full path, or \
+                    one from rust/).";
 
 fn main() {
     println!("cargo:rerun-if-env-changed=WERANDUMB_LIB");
@@ -24,17 +26,16 @@ fn main() {
     println!("cargo:rustc-link-lib=static={name}");
 }
 
-/// Where the library may be, best first. `rt staticlib` writes code for x86-64 alone.
+/// Where the library may be, best first. `rt lib` writes code for x86-64 alone.
 fn places() -> Vec<PathBuf> {
     let root = PathBuf::from(env::var_os("CARGO_MANIFEST_DIR").expect("cargo sets CARGO_MANIFEST_DIR"));
     if let Some(told) = env::var_os("WERANDUMB_LIB") {
         let told = root.join(told);
         return vec![if told.is_dir() { told.join("libcapi.a") } else { told }];
     }
-    let target = root.join("../target");
-    let native = target.join("native/libcapi.a");
+    let native = root.join("../target/native/libcapi.a");
     match env::var("CARGO_CFG_TARGET_ARCH").as_deref() {
-        Ok("x86_64") => vec![target.join("staticlib/libcapi.a"), native],
+        Ok("x86_64") => vec![root.join("../crates/capi/out/libcapi.a"), native],
         _ => vec![native],
     }
 }

@@ -35,5 +35,5 @@ fn the_rust_example_is_the_doc_test() {
 
 #[test]
 fn the_first_use_is_a_part_of_the_program() {
-    assert!(file("crates/first/src/main.rt").contains(&block("fn main() {")));
+    assert!(file("crates/first/src/main.rt").contains(&block("fn main(rt: HostRuntime) -> io::Result<()> {")));
 }
