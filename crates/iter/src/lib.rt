@@ -53,7 +53,7 @@ pub fn moved<'a>(walk: MapItemIter<'a>, cursor: Cursor) -> MapItemIter<'a>
     }
 }
 
-// A walk's next item, from any cursor. Its parameters are plain, so a caller needs no proof by hand.
+// A walk's next item, from any cursor, for a caller that has a plain slice.
 pub fn next_of(image: &[u8], cursor: Cursor, page_size: usize) -> Stepped
     ensures { StepOk page_size cursor image.now result }
 {

@@ -1,5 +1,5 @@
 -- Power: bytes and flash steps while the power lasts. What is programmed in pieces is programmed as a whole, with every
--- power (wrote-append); steps in two stretches are the steps of both (cut-append); without power nothing changes
+-- power (wrote_append); steps in two stretches are the steps of both (cut-append); without power nothing changes
 -- (cut-none).
 use Rattle.std.specs.Prelude.{◌≡◌, refl, ◌⊎◌, ℕ, zero, suc, ◌+◌, ◌-◌, ◌≤◌, ◌<◌, Bool, true, false, List, [], ◌∷◌, ◌++◌, length, take, drop, leb}
 use Rattle.std.proofs.Common.{sym, ap, ◌∙◌, subst, inl, inr, ⊎_elim, append-nil, length-append, length-take, length-drop, take_all, take-add, length-take-le, arith, leb-true, leb-false, le-leb}
