@@ -18,7 +18,7 @@ use Rattle.theory.specs.Removing.{remove_res, erase_res}
 use Rattle.theory.specs.Latest.{start_res}
 use Rattle.promises.specs.Promise.{row, Given, refused}
 use Rattle.promises.specs.Behind.{called_runs, called-refused, either}
-use Rattle.promises.specs.Answers.{plain_passes, fitting, Fine}
+use Rattle.promises.proofs.EachCall.{plain_passes, fitting, Fine}
 
 -- two answers' parts are one
 row_is : (t t' : Told) → t.answer ≡ t'.answer → t.cursor ≡ t'.cursor → t.image ≡ t'.image → t.erased ≡ t'.erased → row t ≡ row t'

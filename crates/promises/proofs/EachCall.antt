@@ -28,8 +28,8 @@ use Rattle.theory.specs.Gone.{erased_img}
 use Rattle.theory.specs.Removing.{Rid, rid_of, removed_img, Removed, remove_res, not_held, erase_res, wiped}
 use Rattle.theory.specs.Latest.{begun, start_res, walked_log, lists_of, not_corrupt, absent, found-bytes}
 use Rattle.promises.specs.Promise.{Given, refused, Shows, Right, again, StepRight}
-use Rattle.promises.specs.Rule.{store_rule, store-erases}
-use Rattle.promises.specs.Walks.{walk_one, walked, step_rule, step_ends}
+use Rattle.promises.proofs.Rule.{store_rule, store-erases}
+use Rattle.promises.proofs.Walks.{walk_one, walked, step_rule, step_ends}
 use Rattle.promises.specs.Behind.{called_runs, either, run_kept}
 
 shows_clean : (img : List ℕ) (a : Answer) (o : Option (List ℕ)) → Shows img a o → a ≢ Corrupted

@@ -10,9 +10,9 @@ use Rattle.theory.specs.Cached.{Valid}
 use Rattle.theory.specs.Sane.{valid_empty}
 use Rattle.theory.specs.Latest.{list_of, lists_of}
 use Rattle.promises.specs.Promise.{AllGiven, fresh, again, Row, row, seen, Follows}
-use Rattle.promises.specs.Answers.{Fine, held, plain_passes}
-use Rattle.promises.specs.TwoSizes.{same_row}
-use Rattle.promises.specs.AnyLent.{fit_of}
+use Rattle.promises.proofs.EachCall.{Fine, held, plain_passes}
+use Rattle.promises.proofs.TwoSizes.{same_row}
+use Rattle.promises.proofs.AnyLent.{fit_of}
 
 -- what is lent is sound
 sound_of : (w E m : ℕ) (b : Lent) (l : List Pair) → Fine w E m b l → SoundImage w E b.image

@@ -27,9 +27,9 @@ use Rattle.theory.specs.Kept.{AnswerIn}
 use Rattle.promises.specs.Promise.{Given, AllGiven, fresh, seen, refusal_of, refused, FullRule, Single, Follows, WalkRight, StepRight}
 use Rattle.promises.specs.Singles.{single-after, latest-single}
 use Rattle.promises.specs.Behind.{called-refused, size_kept, steps_play, image-length, answer_in, erased_in}
-use Rattle.promises.specs.Answers.{step_right}
-use Rattle.promises.specs.AnyLent.{all_kept}
-use Rattle.promises.specs.Sequences.{follows, same_seen, begins}
+use Rattle.promises.proofs.EachCall.{step_right}
+use Rattle.promises.proofs.AnyLent.{all_kept}
+use Rattle.promises.proofs.Sequences.{follows, same_seen, begins}
 
 -- ---- DEMAND 2. "no call on a sound image answers Corrupted, and each leaves the image sound": any sequence of calls, from any sound image, with
 -- any lent cache, right or wrong, of any size.

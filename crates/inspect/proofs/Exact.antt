@@ -9,7 +9,7 @@ use Rattle.rules.specs.Sound.{SoundImage}
 use Rattle.laws.specs.Geometry.{Fit, accepted, held_of, zero_done}
 use Rattle.inspect.specs.declared.{Fault.TheVariants.Nothing, Fault.TheVariants.Refused}
 use Rattle.inspect.specs.Faults.{page_fault, first_fault}
-use Rattle.inspect.specs.Checks.{fault_sound, sound_fault}
+use Rattle.inspect.proofs.Checks.{fault_sound, sound_fault}
 
 -- words of 4 bytes, as the code has them, or of 8
 pub exact : (w E : ℕ) (img : List ℕ) → (w ≡ 4) ⊎ (w ≡ 8) → Bytes img → (first_fault w E img ≡ Nothing) ↔ SoundImage w E img

@@ -18,7 +18,7 @@ use Rattle.theory.specs.Latest.{not_corrupt, start_res}
 use Rattle.theory.specs.AnyCache.{fetch_any, store_any}
 use Rattle.promises.specs.Promise.{Given, AllGiven, again, seen, refusal_of, works_on}
 use Rattle.promises.specs.Behind.{either, low_of}
-use Rattle.promises.specs.Answers.{fitting, step_clean}
+use Rattle.promises.proofs.EachCall.{fitting, step_clean}
 
 pub fit_of : (w E : ℕ) (img : List ℕ) → SoundImage w E img → Fit (geo_of w E (length img)) img
 fit_of w E img S = record { held = held_of w E (length img) 0 0 S.word (accepted w E (length img) 0 0 S.accepted); bytes = S.bytes }

@@ -16,7 +16,7 @@ use Rattle.laws.specs.Moves.{next_in, next_other, turned}
 use Rattle.laws.specs.Tails.{area-length, end_high}
 use Rattle.inspect.specs.declared.{Fault.Fault, Fault.TheVariants.Nothing, Fault.TheVariants.CorruptedPage, Fault.TheVariants.NoPartialOpen, Fault.TheVariants.SecondPartialOpen, Fault.TheVariants.NextNotOpen, Fault.TheVariants.OpenApart, Fault.TheVariants.TailNotBlank}
 use Rattle.inspect.specs.Faults.{not_ff, second_partial, open_apart, open_after, dirty, first_dirty, dirty_fault, data_fault, tail_fault, blank_fault, used_fault, page_fault}
-use Rattle.inspect.specs.Firsts.{two_states, is_open, is_partial, all_ff_lem, ff_all, none_by, by_none, First, some_by, with_by, parted, parted-none, partial_head}
+use Rattle.inspect.proofs.Firsts.{two_states, is_open, is_partial, all_ff_lem, ff_all, none_by, by_none, First, some_by, with_by, parted, parted-none, partial_head}
 
 -- a test that finds no fault
 passed : (b : Bool) (f r : Fault) → f ≢ Nothing → pick b f r ≡ Nothing → (b ≡ false) × (r ≡ Nothing)
