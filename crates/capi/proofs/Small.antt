@@ -43,9 +43,13 @@ module _ (E m : ℕ) (call : Call) (l : Lent) where
 pub start_fits : (E m : ℕ) (l : Lent) (t : Told) → t ≡ called 4 E m fetch_all_items l → CursorFits t.cursor
 start_fits E m l t q =
     subst (λ (x : Told). CursorFits x.cursor) (sym q)
-    (cursor_small E m fetch_all_items l _ (cursor_in 4 E m fetch_all_items l (inl refl) 4294967295 (λ e. omega (arith, small E m fetch_all_items l e)) (record { first = omega arith; page = omega arith; place = omega arith })))
+    (cursor_small E m fetch_all_items l _
+    (cursor_in 4 E m fetch_all_items l (inl refl) 4294967295 (λ e. omega (arith, small E m fetch_all_items l e))
+    (record { first = omega arith; page = omega arith; place = omega arith })))
 
 pub step_fits : (E m : ℕ) (c : Cursor) (l : Lent) (t : Told) → t ≡ called 4 E m (next_item c) l → CursorFits c → CursorFits t.cursor
 step_fits E m c l t q h =
     subst (λ (x : Told). CursorFits x.cursor) (sym q)
-    (cursor_small E m (next_item c) l _ (cursor_in 4 E m (next_item c) l (inl refl) 4294967295 (λ e. omega (arith, small E m (next_item c) l e)) (record { first = omega (arith, h.0); page = omega (arith, h.1); place = omega (arith, h.2) })))
+    (cursor_small E m (next_item c) l _
+    (cursor_in 4 E m (next_item c) l (inl refl) 4294967295 (λ e. omega (arith, small E m (next_item c) l e))
+    (record { first = omega (arith, h.0); page = omega (arith, h.1); place = omega (arith, h.2) })))

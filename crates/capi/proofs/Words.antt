@@ -20,12 +20,15 @@ entries-cut : (n : ℕ) (xs ys : List ℕ) → take n (entries (take n xs) ys) �
 entries-cut zero xs ys = refl
 entries-cut (suc n) [] ys = refl
 entries-cut (suc n) (x ∷ xs) [] = refl
-entries-cut (suc n) (x ∷ xs) (y ∷ ys) = ap (λ (t : List Pointer). record { key = x; place = y } ∷ t) (entries-cut n xs ys)
+entries-cut (suc n) (x ∷ xs) (y ∷ ys) =
+    ap (λ (t : List Pointer). record { key = x; place = y } ∷ t) (entries-cut n xs ys)
 
 -- the cache of two halves
-pub cache_in : (ws ks ps : List ℕ) → length ws ≡ 64 → ks ≡ take 32 ws → ps ≡ take 32 (drop 32 ws) → pointers 32 (record { keys = ks; places = ps }) ≡ entries_of ws
+pub cache_in : (ws ks ps : List ℕ) → length ws ≡ 64 → ks ≡ take 32 ws → ps ≡ take 32 (drop 32 ws)
+    → pointers 32 (record { keys = ks; places = ps }) ≡ entries_of ws
 unfolding pointers
-cache_in ws ks ps h e f = rw (e, f, take_all 32 (drop 32 ws) (omega (arith, length-drop 32 ws))) (entries-cut 32 ws (drop 32 ws))
+cache_in ws ks ps h e f =
+    rw (e, f, take_all 32 (drop 32 ws) (omega (arith, length-drop 32 ws))) (entries-cut 32 ws (drop 32 ws))
 
 keys_back : (n : ℕ) (ks ps : List ℕ) → length ks ≡ n → length ps ≡ n → keys_of (take n (entries ks ps)) ≡ ks
 keys_back zero [] ps h g = refl

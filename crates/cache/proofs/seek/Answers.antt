@@ -23,8 +23,13 @@ loop-i-preserved c =
     let l = c.loop-i in
     let a = c.args in
     let k = arrays a.keys.now a.places.now in
-    let s : Sized a.size k = search rules in
-    (search rules, sym (seek_on k a.size s a.key l.i c.loop-i-test.true (elim c.if-keys-i.branch [ then-keys-i+else-places-i-ne0 w ↦ inr w.if-places-i-ne0.false | else-keys-i w ↦ inl w.if-keys-i.false ])) ∙ l.invariant.1)
+    let s : Sized a.size k = search rules in (
+      search rules,
+      sym (seek_on k a.size s a.key l.i c.loop-i-test.true
+          (elim c.if-keys-i.branch
+          [ then-keys-i+else-places-i-ne0 w ↦ inr w.if-places-i-ne0.false | else-keys-i w ↦ inl w.if-keys-i.false ]))
+          ∙ l.invariant.1,
+    )
 
 pub returns : goal.returns
 returns c =

@@ -7,7 +7,9 @@ use Rattle.cache.proofs.seek.Given as goal
 
 abbrev pub invariant-loop-i : goal.invariant-loop-i
 invariant-loop-i l =
-    (l.i ≤ l.size) × (l.i + index l.key (drop l.i (pointers l.size (arrays l.keys l.places))) ≡ index l.key (pointers l.size (arrays l.keys l.places)))
+    (l.i ≤ l.size)
+    × (l.i + index l.key (drop l.i (pointers l.size (arrays l.keys l.places)))
+    ≡ index l.key (pointers l.size (arrays l.keys l.places)))
 
 abbrev pub decreases-loop-i : goal.decreases-loop-i
 decreases-loop-i l = l.size - l.i

@@ -9,8 +9,11 @@ loop-k-init c = (search rules, shift_start c.args.a.now c.args.j (omega arith), 
 pub loop-k-preserved : goal.loop-k-preserved
 loop-k-preserved c =
     let a = c.args in
-    let l = c.loop-k in
-    (omega arith, shift_again a.a.now a.j (omega arith) l.a l.k l.invariant.1 c.loop-k-test.true l.invariant.0, search rules)
+    let l = c.loop-k in (
+      omega arith,
+      shift_again a.a.now a.j (omega arith) l.a l.k l.invariant.1 c.loop-k-test.true l.invariant.0,
+      search rules,
+    )
 
 pub returns : goal.returns
 returns c =

@@ -17,4 +17,8 @@ answer_of-requires c = let a = c.args in (c.newest.ensures.1, omega (arith, held
 
 pub returns : goal.returns
 unfolding plain_fetch
-returns c = let a = c.args in rw (← c.any_corrupted.ensures, c.if-any_corrupted.false) (c.answer_of.ensures ∙ ap told_answer c.newest.ensures.0 ∙ answer_is (newest a.g a.img.now a.key) (newest-plain a.g a.img.now a.key))
+returns c =
+    let a = c.args in
+    rw (← c.any_corrupted.ensures, c.if-any_corrupted.false)
+    (c.answer_of.ensures ∙ ap told_answer c.newest.ensures.0
+    ∙ answer_is (newest a.g a.img.now a.key) (newest-plain a.g a.img.now a.key))

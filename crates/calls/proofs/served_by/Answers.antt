@@ -16,6 +16,7 @@ returns-else-a-eq0 c =
     let f = c.find-a in
     let t = c.if-a-eq0 in
     let h = c.hit in (
-      served_hit a.g a.img.now (pointers a.slots a.cache) a.job _ c.in-Fetch.is f.result f.ensures _ t.false h.ensures.0,
+      served_hit a.g a.img.now (pointers a.slots a.cache) a.job _ c.in-Fetch.is f.result f.ensures _ t.false
+          h.ensures.0,
       h.ensures.1,
     )

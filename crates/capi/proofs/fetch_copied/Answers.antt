@@ -9,8 +9,11 @@ pub finish-requires : goal.finish-requires
 finish-requires c =
     let a = c.args in
     let held = c.cache_of-held in
-    let r = c.fetch_item-told in
-    (c.requires.0, c.requires.1, told-fits a.page a.size (fetch_item a.key) (lent_of a.img.now held.result) (told_of r.new.img r.result) r.ensures)
+    let r = c.fetch_item-told in (
+      c.requires.0,
+      c.requires.1,
+      told-fits a.page a.size (fetch_item a.key) (lent_of a.img.now held.result) (told_of r.new.img r.result) r.ensures,
+    )
 
 pub returns : goal.returns
 returns c =
@@ -18,4 +21,5 @@ returns c =
     let held = c.cache_of-held in
     let r = c.fetch_item-told in
     let f = c.finish in
-    told a.page a.size (fetch_item a.key) a.img.now a.cache.now a.out.now c.requires.0 c.requires.1 held.result held.ensures r.new.img r.result r.ensures f.result f.new.cache f.new.out f.ensures
+    told a.page a.size (fetch_item a.key) a.img.now a.cache.now a.out.now c.requires.0 c.requires.1 held.result
+    held.ensures r.new.img r.result r.ensures f.result f.new.cache f.new.out f.ensures

@@ -11,8 +11,12 @@ loop-k-init c = (search rules, refl, search rules, search rules)
 pub loop-k-preserved : goal.loop-k-preserved
 loop-k-preserved c =
     let a = c.args in
-    let l = c.loop-k in
-    (search rules, over-turn a.words.now _ l.b l.k l.invariant.1 (omega arith) (omega arith), search rules, search rules)
+    let l = c.loop-k in (
+      search rules,
+      over-turn a.words.now _ l.b l.k l.invariant.1 (omega arith) (omega arith),
+      search rules,
+      search rules,
+    )
 
 pub returns : goal.returns
 returns c =

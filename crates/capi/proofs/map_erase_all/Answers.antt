@@ -20,8 +20,11 @@ pub finish-requires : goal.finish-requires
 finish-requires c =
     let a = c.args in
     let held = c.cache_of-held in
-    let r = c.erase_all-told in
-    (omega arith, omega arith, told-fits a.page a.size erase_all_pages (lent_of a.img.now held.result) (told_of r.new.img r.result) r.ensures)
+    let r = c.erase_all-told in (
+      omega arith,
+      omega arith,
+      told-fits a.page a.size erase_all_pages (lent_of a.img.now held.result) (told_of r.new.img r.result) r.ensures,
+    )
 
 pub returns : goal.returns
 returns c =
@@ -29,4 +32,5 @@ returns c =
     let held = c.cache_of-held in
     let r = c.erase_all-told in
     let f = c.finish in
-    told a.page a.size erase_all_pages a.img.now a.cache.now a.out.now c.if-cache-ne64.false c.if-out-ne5.false held.result held.ensures r.new.img r.result r.ensures f.result f.new.cache f.new.out f.ensures
+    told a.page a.size erase_all_pages a.img.now a.cache.now a.out.now c.if-cache-ne64.false c.if-out-ne5.false
+    held.result held.ensures r.new.img r.result r.ensures f.result f.new.cache f.new.out f.ensures

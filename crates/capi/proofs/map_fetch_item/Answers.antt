@@ -18,8 +18,10 @@ pub put_out-requires : goal.put_out-requires
 put_out-requires c =
     let a = c.args in
     let t = c.fetch_still-a in
-    let n = c.number in
-    (c.if-out-ne5.false, still_fits a.page a.size a.key a.img.now a.cache.now t.result t.ensures n.result n.ensures c.if-number-eq8.false)
+    let n = c.number in (
+      c.if-out-ne5.false,
+      still_fits a.page a.size a.key a.img.now a.cache.now t.result t.ensures n.result n.ensures c.if-number-eq8.false,
+    )
 
 pub returns : goal.returns
 returns c =
@@ -27,4 +29,5 @@ returns c =
     let t = c.fetch_still-a in
     let n = c.number in
     let o = c.put_out in
-    still_told a.page a.size a.key a.img.now a.cache.now a.out.now c.if-cache-ne64.false c.if-out-ne5.false t.result t.ensures n.result n.ensures c.if-number-eq8.false c.number-2.result o.new.out c.number-2.ensures o.ensures
+    still_told a.page a.size a.key a.img.now a.cache.now a.out.now c.if-cache-ne64.false c.if-out-ne5.false t.result
+    t.ensures n.result n.ensures c.if-number-eq8.false c.number-2.result o.new.out c.number-2.ensures o.ensures

@@ -15,11 +15,15 @@ returns-then-out-ne5 c =
 pub put_out-requires : goal.put_out-requires
 put_out-requires c =
     let a = c.args in
-    let r = c.fetch_plain-a in
-    (omega arith, told-fits a.page 0 (fetch_plain a.key) (record { image = a.img.now; cache = [] }) (answered r.result no_cursor (record { image = a.img.now; cache = [] })) (r.ensures.is 0 []))
+    let r = c.fetch_plain-a in (
+      omega arith,
+      told-fits a.page 0 (fetch_plain a.key) (record { image = a.img.now; cache = [] })
+          (answered r.result no_cursor (record { image = a.img.now; cache = [] })) (r.ensures.is 0 []),
+    )
 
 pub returns : goal.returns
 returns c =
     let a = c.args in
     let r = c.fetch_plain-a in
-    plain-told a.page a.key a.img.now a.out.now c.if-out-ne5.false r.result r.ensures c.number.result _ c.number.ensures c.put_out.ensures
+    plain-told a.page a.key a.img.now a.out.now c.if-out-ne5.false r.result r.ensures c.number.result _ c.number.ensures
+    c.put_out.ensures

@@ -14,14 +14,19 @@ returns-then-cache-ne64 c =
 pub returns-then-out-ne5 : goal.returns-then-out-ne5
 returns-then-out-ne5 c =
     let a = c.args in
-    no-out a.page a.size (store_item a.key a.value.now) a.img.now a.cache.now a.out.now c.if-cache-ne64.false c.if-out-ne5.true
+    no-out a.page a.size (store_item a.key a.value.now) a.img.now a.cache.now a.out.now c.if-cache-ne64.false
+    c.if-out-ne5.true
 
 pub finish-requires : goal.finish-requires
 finish-requires c =
     let a = c.args in
     let held = c.cache_of-held in
-    let r = c.store_item-told in
-    (omega arith, omega arith, told-fits a.page a.size (store_item a.key a.value.now) (lent_of a.img.now held.result) (told_of r.new.img r.result) r.ensures)
+    let r = c.store_item-told in (
+      omega arith,
+      omega arith,
+      told-fits a.page a.size (store_item a.key a.value.now) (lent_of a.img.now held.result)
+          (told_of r.new.img r.result) r.ensures,
+    )
 
 pub returns : goal.returns
 returns c =
@@ -29,4 +34,5 @@ returns c =
     let held = c.cache_of-held in
     let r = c.store_item-told in
     let f = c.finish in
-    told a.page a.size (store_item a.key a.value.now) a.img.now a.cache.now a.out.now c.if-cache-ne64.false c.if-out-ne5.false held.result held.ensures r.new.img r.result r.ensures f.result f.new.cache f.new.out f.ensures
+    told a.page a.size (store_item a.key a.value.now) a.img.now a.cache.now a.out.now c.if-cache-ne64.false
+    c.if-out-ne5.false held.result held.ensures r.new.img r.result r.ensures f.result f.new.cache f.new.out f.ensures

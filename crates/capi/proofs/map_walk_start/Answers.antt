@@ -14,12 +14,14 @@ returns-then-cache-ne64 c =
 pub returns-then-cursor-ne3 : goal.returns-then-cursor-ne3
 returns-then-cursor-ne3 c =
     let a = c.args in
-    start_no_cursor a.page a.size a.img.now a.cache.now a.cursor.now a.out.now c.if-cache-ne64.false c.if-cursor-ne3.true
+    start_no_cursor a.page a.size a.img.now a.cache.now a.cursor.now a.out.now c.if-cache-ne64.false
+    c.if-cursor-ne3.true
 
 pub returns-then-out-ne5 : goal.returns-then-out-ne5
 returns-then-out-ne5 c =
     let a = c.args in
-    start_no_out a.page a.size a.img.now a.cache.now a.cursor.now a.out.now c.if-cache-ne64.false c.if-cursor-ne3.false c.if-out-ne5.true
+    start_no_out a.page a.size a.img.now a.cache.now a.cursor.now a.out.now c.if-cache-ne64.false c.if-cursor-ne3.false
+    c.if-out-ne5.true
 
 pub keep_cursor-requires : goal.keep_cursor-requires
 keep_cursor-requires c =
@@ -32,8 +34,11 @@ pub finish-requires : goal.finish-requires
 finish-requires c =
     let a = c.args in
     let held = c.cache_of-held in
-    let r = c.fetch_all_items-s in
-    (c.if-cache-ne64.false, c.if-out-ne5.false, told-fits a.page a.size fetch_all_items (lent_of a.img.now held.result) (started_of r.new.img r.result) r.ensures)
+    let r = c.fetch_all_items-s in (
+      c.if-cache-ne64.false,
+      c.if-out-ne5.false,
+      told-fits a.page a.size fetch_all_items (lent_of a.img.now held.result) (started_of r.new.img r.result) r.ensures,
+    )
 
 pub returns : goal.returns
 returns c =
@@ -42,4 +47,6 @@ returns c =
     let r = c.fetch_all_items-s in
     let k = c.keep_cursor in
     let f = c.finish in
-    start_told a.page a.size a.img.now a.cache.now a.cursor.now a.out.now c.if-cache-ne64.false c.if-cursor-ne3.false c.if-out-ne5.false held.result held.ensures r.new.img r.result r.ensures k.new.words k.ensures f.result f.new.cache f.new.out f.ensures
+    start_told a.page a.size a.img.now a.cache.now a.cursor.now a.out.now c.if-cache-ne64.false c.if-cursor-ne3.false
+    c.if-out-ne5.false held.result held.ensures r.new.img r.result r.ensures k.new.words k.ensures f.result f.new.cache
+    f.new.out f.ensures

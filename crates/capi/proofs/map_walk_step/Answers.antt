@@ -21,15 +21,22 @@ pub keep_cursor-requires : goal.keep_cursor-requires
 keep_cursor-requires c =
     let a = c.args in
     let at = c.cursor_of-at in
-    let r = c.next_item-s in
-    (omega arith, step_fits a.page 0 at.result (record { image = a.img.now; cache = [] }) (answered r.result.answer r.result.cursor (record { image = a.img.now; cache = [] })) (r.ensures.is 0 []) at.ensures.1)
+    let r = c.next_item-s in (
+      omega arith,
+      step_fits a.page 0 at.result (record { image = a.img.now; cache = [] })
+          (answered r.result.answer r.result.cursor (record { image = a.img.now; cache = [] })) (r.ensures.is 0 [])
+          at.ensures.1,
+    )
 
 pub put_out-requires : goal.put_out-requires
 put_out-requires c =
     let a = c.args in
     let at = c.cursor_of-at in
-    let r = c.next_item-s in
-    (omega arith, told-fits a.page 0 (next_item at.result) (record { image = a.img.now; cache = [] }) (answered r.result.answer r.result.cursor (record { image = a.img.now; cache = [] })) (r.ensures.is 0 []))
+    let r = c.next_item-s in (
+      omega arith,
+      told-fits a.page 0 (next_item at.result) (record { image = a.img.now; cache = [] })
+          (answered r.result.answer r.result.cursor (record { image = a.img.now; cache = [] })) (r.ensures.is 0 []),
+    )
 
 pub returns : goal.returns
 returns c =
@@ -37,4 +44,5 @@ returns c =
     let at = c.cursor_of-at in
     let r = c.next_item-s in
     let k = c.keep_cursor in
-    step_told a.page a.img.now a.cursor.now a.out.now c.if-cursor-ne3.false c.if-out-ne5.false at.result at.ensures.0 r.result r.ensures k.new.words k.ensures c.number.result _ c.number.ensures c.put_out.ensures
+    step_told a.page a.img.now a.cursor.now a.out.now c.if-cursor-ne3.false c.if-out-ne5.false at.result at.ensures.0
+    r.result r.ensures k.new.words k.ensures c.number.result _ c.number.ensures c.put_out.ensures

@@ -9,8 +9,12 @@ returns-then-c-n c = rw (← c.first-c.ensures.0, lt-ltb _ _ c.if-c-n.true)
 
 pub returns-then-p-n : goal.returns-then-p-n
 unfolding page_fault
-returns-then-p-n c = rw (← c.first-c.ensures.0, le-ltb _ _ c.if-c-n.false, ← c.first-p.ensures.0, lt-ltb _ _ c.if-p-n.true) c.used_fault.ensures
+returns-then-p-n c =
+    rw (← c.first-c.ensures.0, le-ltb _ _ c.if-c-n.false, ← c.first-p.ensures.0, lt-ltb _ _ c.if-p-n.true)
+    c.used_fault.ensures
 
 pub returns : goal.returns
 unfolding page_fault
-returns c = rw (← c.first-c.ensures.0, le-ltb _ _ c.if-c-n.false, ← c.first-p.ensures.0, le-ltb _ _ c.if-p-n.false) c.blank_fault.ensures
+returns c =
+    rw (← c.first-c.ensures.0, le-ltb _ _ c.if-c-n.false, ← c.first-p.ensures.0, le-ltb _ _ c.if-p-n.false)
+    c.blank_fault.ensures

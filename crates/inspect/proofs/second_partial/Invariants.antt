@@ -7,7 +7,9 @@ use Rattle.inspect.specs.Faults.{second_partial}
 use Rattle.inspect.proofs.second_partial.Given as goal
 
 abbrev pub invariant-loop-q : goal.invariant-loop-q
-invariant-loop-q l = (l.q ≤ l.n) × (l.n ≡ l.g.pages) × (first_with l.g PartialOpen l.img (up_from l.q (l.g.pages - l.q)) ≡ second_partial l.g l.img l.p)
+invariant-loop-q l =
+    (l.q ≤ l.n) × (l.n ≡ l.g.pages)
+    × (first_with l.g PartialOpen l.img (up_from l.q (l.g.pages - l.q)) ≡ second_partial l.g l.img l.p)
 
 abbrev pub decreases-loop-q : goal.decreases-loop-q
 decreases-loop-q l = l.n - l.q

@@ -9,16 +9,54 @@ returns-then-s-n c = rw (← c.second_partial-s.ensures, lt-ltb _ _ c.if-s-n.tru
 
 pub returns-then-a-n : goal.returns-then-a-n
 unfolding used_fault
-returns-then-a-n c = rw (← c.second_partial-s.ensures, le-ltb _ _ c.if-s-n.false, ← c.next-o.ensures.0, ← c.page_is.ensures, c.if-page_is.true, ← c.first_open_apart-a.ensures, lt-ltb _ _ c.if-a-n.true)
+returns-then-a-n c =
+    rw (
+      ← c.second_partial-s.ensures,
+      le-ltb _ _ c.if-s-n.false,
+      ← c.next-o.ensures.0,
+      ← c.page_is.ensures,
+      c.if-page_is.true,
+      ← c.first_open_apart-a.ensures,
+      lt-ltb _ _ c.if-a-n.true,
+    )
 
 pub returns-then-d-n : goal.returns-then-d-n
 unfolding used_fault
-returns-then-d-n c = rw (← c.second_partial-s.ensures, le-ltb _ _ c.if-s-n.false, ← c.next-o.ensures.0, ← c.page_is.ensures, c.if-page_is.true, ← c.first_open_apart-a.ensures, le-ltb _ _ c.if-a-n.false, ← c.first_dirty-d.ensures.0, lt-ltb _ _ c.if-d-n.true) c.data_fault.ensures
+returns-then-d-n c =
+    rw (
+      ← c.second_partial-s.ensures,
+      le-ltb _ _ c.if-s-n.false,
+      ← c.next-o.ensures.0,
+      ← c.page_is.ensures,
+      c.if-page_is.true,
+      ← c.first_open_apart-a.ensures,
+      le-ltb _ _ c.if-a-n.false,
+      ← c.first_dirty-d.ensures.0,
+      lt-ltb _ _ c.if-d-n.true,
+    ) c.data_fault.ensures
 
 pub returns-then-page_is : goal.returns-then-page_is
 unfolding used_fault
-returns-then-page_is c = rw (← c.second_partial-s.ensures, le-ltb _ _ c.if-s-n.false, ← c.next-o.ensures.0, ← c.page_is.ensures, c.if-page_is.true, ← c.first_open_apart-a.ensures, le-ltb _ _ c.if-a-n.false, ← c.first_dirty-d.ensures.0, le-ltb _ _ c.if-d-n.false) c.tail_fault.ensures
+returns-then-page_is c =
+    rw (
+      ← c.second_partial-s.ensures,
+      le-ltb _ _ c.if-s-n.false,
+      ← c.next-o.ensures.0,
+      ← c.page_is.ensures,
+      c.if-page_is.true,
+      ← c.first_open_apart-a.ensures,
+      le-ltb _ _ c.if-a-n.false,
+      ← c.first_dirty-d.ensures.0,
+      le-ltb _ _ c.if-d-n.false,
+    ) c.tail_fault.ensures
 
 pub returns : goal.returns
 unfolding used_fault
-returns c = rw (← c.second_partial-s.ensures, le-ltb _ _ c.if-s-n.false, ← c.next-o.ensures.0, ← c.page_is.ensures, c.if-page_is.false)
+returns c =
+    rw (
+      ← c.second_partial-s.ensures,
+      le-ltb _ _ c.if-s-n.false,
+      ← c.next-o.ensures.0,
+      ← c.page_is.ensures,
+      c.if-page_is.false,
+    )

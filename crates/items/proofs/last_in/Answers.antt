@@ -16,7 +16,8 @@ pub returns-in-End : goal.returns-in-End
 returns-in-End c =
     let a = c.args in
     let l = c.loop-at in
-    let s = by_end a.w (omega arith) a.img.now a.e (omega arith) l.at c.look_at-r.result c.loop-at-test.true c.look_at-r.ensures.0 c.in-End.is in
+    let s = by_end a.w (omega arith) a.img.now a.e (omega arith) l.at c.look_at-r.result c.loop-at-test.true
+    c.look_at-r.ensures.0 c.in-End.is in
     (rw s at l.invariant.2, l.invariant.3)
 
 pub loop-at-preserved-in-Skip : goal.loop-at-preserved-in-Skip
@@ -24,11 +25,19 @@ loop-at-preserved-in-Skip c =
     let a = c.args in
     let l = c.loop-at in
     let f = rw c.in-Skip.is at c.look_at-r.ensures.1 in
-    let s = by_skip a.w (omega arith) a.img.now a.e (omega arith) l.at c.look_at-r.result c.loop-at-test.true c.look_at-r.ensures.0 c.in-Skip.is in
-    (omega arith, omega arith, sym (ap (λ (x : Scan). or_of (told (last_with a.wanted (presents x.items))) l.best) s) ∙ l.invariant.2, l.invariant.3)
+    let s = by_skip a.w (omega arith) a.img.now a.e (omega arith) l.at c.look_at-r.result c.loop-at-test.true
+    c.look_at-r.ensures.0 c.in-Skip.is in (
+      omega arith,
+      omega arith,
+      sym (ap (λ (x : Scan). or_of (told (last_with a.wanted (presents x.items))) l.best) s) ∙ l.invariant.2,
+      l.invariant.3,
+    )
 
 pub better-best-requires : goal.better-best-requires
-better-best-requires c = let f = rw c.in-Item.is at c.look_at-r.ensures.1 in let l = long_part c.args.img.now c.loop-at.at c.args.e (omega arith) in omega arith
+better-best-requires c =
+    let f = rw c.in-Item.is at c.look_at-r.ensures.1 in
+    let l = long_part c.args.img.now c.loop-at.at c.args.e (omega arith) in
+    omega arith
 
 pub size-at-requires : goal.size-at-requires
 size-at-requires c = let f = rw c.in-Item.is at c.look_at-r.ensures.1 in omega arith
@@ -40,11 +49,21 @@ pub loop-at-preserved : goal.loop-at-preserved
 loop-at-preserved c =
     let a = c.args in
     let l = c.loop-at in
-    let f = rw c.in-Item.is at c.look_at-r.ensures.1 in
-    (omega arith, omega arith, rw c.size-at.ensures.0 (last-item a.w (omega arith) a.img.now a.e (omega arith) l.at c.look_at-r.result c.loop-at-test.true c.look_at-r.ensures.0 a.wanted c.in-Item.len l.best c.better-best.result _ c.in-Item.is l.invariant.2 c.better-best.ensures), spot_step (part a.img.now l.at a.e) l.at c.in-Item.len a.wanted a.e l.best c.better-best.result (omega arith) (omega arith) (omega arith) (omega (arith, long_part a.img.now l.at a.e (omega arith))) l.invariant.3 c.better-best.ensures)
+    let f = rw c.in-Item.is at c.look_at-r.ensures.1 in (
+      omega arith,
+      omega arith,
+      rw c.size-at.ensures.0 (last-item a.w (omega arith) a.img.now a.e (omega arith) l.at c.look_at-r.result
+          c.loop-at-test.true c.look_at-r.ensures.0 a.wanted c.in-Item.len l.best c.better-best.result _ c.in-Item.is
+          l.invariant.2 c.better-best.ensures),
+      spot_step (part a.img.now l.at a.e) l.at c.in-Item.len a.wanted a.e l.best c.better-best.result (omega arith)
+          (omega arith) (omega arith) (omega (arith, long_part a.img.now l.at a.e (omega arith))) l.invariant.3
+          c.better-best.ensures,
+    )
 
 pub returns : goal.returns
 returns c =
     let a = c.args in
-    let l = c.loop-at in
-    (rw (in_none a.w (omega arith) a.img.now a.e (omega arith) l.at c.loop-at-test.false) at l.invariant.2, l.invariant.3)
+    let l = c.loop-at in (
+      rw (in_none a.w (omega arith) a.img.now a.e (omega arith) l.at c.loop-at-test.false) at l.invariant.2,
+      l.invariant.3,
+    )

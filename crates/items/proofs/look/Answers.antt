@@ -18,12 +18,46 @@ returns-then-all_ff c = (rw (le-ltb _ _ c.if-s-lt8.false, ← c.all_ff.ensures, 
 
 pub returns-then-len-le16-ne65535 : goal.returns-then-len-le16-ne65535
 unfolding read read_by
-returns-then-len-le16-ne65535 c = (rw (le-ltb _ _ c.if-s-lt8.false, ← c.all_ff.ensures, c.if-all_ff.false, ← c.le16-len.ensures.0, ← c.le16.ensures.0, ne_eqb _ _ c.if-len-le16-ne65535.true), omega arith)
+returns-then-len-le16-ne65535 c = (
+  rw (
+    le-ltb _ _ c.if-s-lt8.false,
+    ← c.all_ff.ensures,
+    c.if-all_ff.false,
+    ← c.le16-len.ensures.0,
+    ← c.le16.ensures.0,
+    ne_eqb _ _ c.if-len-le16-ne65535.true,
+  ),
+  omega arith,
+)
 
 pub returns-then-s-size : goal.returns-then-s-size
 unfolding read read_by
-returns-then-s-size c = (rw (le-ltb _ _ c.if-s-lt8.false, ← c.all_ff.ensures, c.if-all_ff.false, ← c.le16-len.ensures.0, ← c.le16.ensures.0, eq-eqb _ _ c.if-len-le16-ne65535.false, ← c.size.ensures.0, lt-leb _ _ c.if-s-size.true), omega arith)
+returns-then-s-size c = (
+  rw (
+    le-ltb _ _ c.if-s-lt8.false,
+    ← c.all_ff.ensures,
+    c.if-all_ff.false,
+    ← c.le16-len.ensures.0,
+    ← c.le16.ensures.0,
+    eq-eqb _ _ c.if-len-le16-ne65535.false,
+    ← c.size.ensures.0,
+    lt-leb _ _ c.if-s-size.true,
+  ),
+  omega arith,
+)
 
 pub returns : goal.returns
 unfolding read read_by
-returns c = (rw (le-ltb _ _ c.if-s-lt8.false, ← c.all_ff.ensures, c.if-all_ff.false, ← c.le16-len.ensures.0, ← c.le16.ensures.0, eq-eqb _ _ c.if-len-le16-ne65535.false, ← c.size.ensures.0, le-leb _ _ c.if-s-size.false), omega arith)
+returns c = (
+  rw (
+    le-ltb _ _ c.if-s-lt8.false,
+    ← c.all_ff.ensures,
+    c.if-all_ff.false,
+    ← c.le16-len.ensures.0,
+    ← c.le16.ensures.0,
+    eq-eqb _ _ c.if-len-le16-ne65535.false,
+    ← c.size.ensures.0,
+    le-leb _ _ c.if-s-size.false,
+  ),
+  omega arith,
+)

@@ -6,7 +6,9 @@ use native.Mathlib.Omega.{arith}
 use Rattle.items.proofs.present.Goals as goal
 
 pub returns-in-Present : goal.returns-in-Present
-returns-in-Present c = let e : true ≡ is_present (item_of c.args.s.now c.args.len).kind = rw (← c.kind-k.ensures, c.in-Present.is) in (e, kind_long c.args.s.now c.args.len (omega arith) (sym e))
+returns-in-Present c =
+    let e : true ≡ is_present (item_of c.args.s.now c.args.len).kind = rw (← c.kind-k.ensures, c.in-Present.is) in
+    (e, kind_long c.args.s.now c.args.len (omega arith) (sym e))
 
 pub returns-in-Removed : goal.returns-in-Removed
 returns-in-Removed c = (rw (← c.kind-k.ensures, c.in-Removed.is), tt)

@@ -15,7 +15,10 @@ returns-then-number-ne0 c =
     let a = c.args in
     let no = c.refusal-no in
     let d = c.number in
-    record { is = λ m e. refused a.page 0 0 a.img.now no.result d.result no.ensures d.ensures (λ G s. out (plain_fetch G s.img a.key) s) (λ G o. no_cursor) no_cursor c.if-number-ne0.true e }
+    record {
+      is = λ m e. refused a.page 0 0 a.img.now no.result d.result no.ensures d.ensures
+          (λ G s. out (plain_fetch G s.img a.key) s) (λ G o. no_cursor) no_cursor c.if-number-ne0.true e;
+    }
 
 pub geometry-g-requires : goal.geometry-g-requires
 geometry-g-requires c =
@@ -30,7 +33,8 @@ plain_fetch-requires c =
     let no = c.refusal-no in
     let d = c.number in
     let g = c.geometry-g in
-    held 4 a.page 0 0 a.img.now (inl refl) no.result d.result no.ensures d.ensures c.if-number-ne0.false g.result g.ensures
+    held 4 a.page 0 0 a.img.now (inl refl) no.result d.result no.ensures d.ensures c.if-number-ne0.false g.result
+    g.ensures
 
 pub returns : goal.returns
 unfolding called
@@ -41,6 +45,8 @@ returns c =
     let g = c.geometry-g in
     let r = c.plain_fetch in
     record {
-      is = λ m e. read_only a.page a.img.now no.result d.result no.ensures d.ensures (λ G s. out (plain_fetch G s.img a.key) s) (λ G o. no_cursor) no_cursor c.if-number-ne0.false g.result g.ensures r.result no_cursor e
+      is = λ m e. read_only a.page a.img.now no.result d.result no.ensures d.ensures
+          (λ G s. out (plain_fetch G s.img a.key) s) (λ G o. no_cursor) no_cursor c.if-number-ne0.false g.result
+          g.ensures r.result no_cursor e
           (ap (λ x. end x (record { img = a.img.now; cache = []; erased = 0 })) (sym r.ensures)) refl;
     }

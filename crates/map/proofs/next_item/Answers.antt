@@ -16,7 +16,11 @@ returns-then-number-ne0 c =
     let a = c.args in
     let no = c.refusal-no in
     let d = c.number in
-    record { is = λ m e. refused a.page 0 0 a.img.now no.result d.result no.ensures d.ensures (λ G s. out (step_answer (walk_step G s.img a.cursor)) s) (λ G o. step_cursor a.cursor (walk_step G a.img.now a.cursor)) a.cursor c.if-number-ne0.true e }
+    record {
+      is = λ m e. refused a.page 0 0 a.img.now no.result d.result no.ensures d.ensures
+          (λ G s. out (step_answer (walk_step G s.img a.cursor)) s)
+          (λ G o. step_cursor a.cursor (walk_step G a.img.now a.cursor)) a.cursor c.if-number-ne0.true e;
+    }
 
 pub geometry-g-requires : goal.geometry-g-requires
 geometry-g-requires c =
@@ -31,7 +35,8 @@ walk_step-requires c =
     let no = c.refusal-no in
     let d = c.number in
     let g = c.geometry-g in
-    held 4 a.page 0 0 a.img.now (inl refl) no.result d.result no.ensures d.ensures c.if-number-ne0.false g.result g.ensures
+    held 4 a.page 0 0 a.img.now (inl refl) no.result d.result no.ensures d.ensures c.if-number-ne0.false g.result
+    g.ensures
 
 pub returns : goal.returns
 unfolding called
@@ -45,7 +50,11 @@ returns c =
     let w = walk_step g.result a.img.now a.cursor in
     let told = r.ensures ∙ ap (stepped_by a.cursor) s.ensures in
     record {
-      is = λ m e. read_only a.page a.img.now no.result d.result no.ensures d.ensures (λ G s. out (step_answer (walk_step G s.img a.cursor)) s) (λ G o. step_cursor a.cursor (walk_step G a.img.now a.cursor)) a.cursor c.if-number-ne0.false g.result g.ensures r.result.answer r.result.cursor e
-          (ap (λ x. end x (record { img = a.img.now; cache = []; erased = 0 })) (sym (ap (λ x. x.answer) told ∙ step_answer_lem a.cursor w)))
+      is = λ m e. read_only a.page a.img.now no.result d.result no.ensures d.ensures
+          (λ G s. out (step_answer (walk_step G s.img a.cursor)) s)
+          (λ G o. step_cursor a.cursor (walk_step G a.img.now a.cursor)) a.cursor c.if-number-ne0.false g.result
+          g.ensures r.result.answer r.result.cursor e
+          (ap (λ x. end x (record { img = a.img.now; cache = []; erased = 0 }))
+          (sym (ap (λ x. x.answer) told ∙ step_answer_lem a.cursor w)))
           (sym (ap (λ x. x.cursor) told ∙ step_cursor_lem a.cursor w));
     }

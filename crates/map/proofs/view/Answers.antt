@@ -19,5 +19,6 @@ pub returns : goal.returns
 unfolding view
 returns c =
     let a = c.args in
-    let out : length a.img.now < a.place + a.len = elim c.if-place-img.branch [ then-place-img+else-len-img w ↦ omega arith | else-place-img w ↦ omega arith ] in
+    let out : length a.img.now < a.place + a.len = elim c.if-place-img.branch
+    [ then-place-img+else-len-img w ↦ omega arith | else-place-img w ↦ omega arith ] in
     rw (lt-leb (a.place + a.len) (length a.img.now) out)

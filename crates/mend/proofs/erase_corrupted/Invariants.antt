@@ -12,11 +12,12 @@ use Rattle.mend.proofs.erase_corrupted.Given as goal
 
 abbrev pub invariant-loop-p : goal.invariant-loop-p
 invariant-loop-p l =
-    (l.p ≤ l.g.pages) × (l.n ≡ l.g.pages) × (length l.img ≡ length l.initial.img) × (l.held.cache ≡ l.initial.held.cache)
+    (l.p ≤ l.g.pages) × (l.n ≡ l.g.pages) × (length l.img ≡ length l.initial.img)
+    × (l.held.cache ≡ l.initial.held.cache)
     × (l.held.erased ≤ l.initial.held.erased + l.p)
     × ((m : ℕ) (k : St → Out)
-    → Through l.g (erase_corrupted l.g (all_pages l.g) (st_of m l.initial.img l.initial.held) k) l.initial.img l.initial.power l.img l.power
-    (erase_corrupted l.g (up_from l.p (l.g.pages - l.p)) (st_of m l.img l.held) k))
+    → Through l.g (erase_corrupted l.g (all_pages l.g) (st_of m l.initial.img l.initial.held) k) l.initial.img
+    l.initial.power l.img l.power (erase_corrupted l.g (up_from l.p (l.g.pages - l.p)) (st_of m l.img l.held) k))
 
 abbrev pub decreases-loop-p : goal.decreases-loop-p
 decreases-loop-p l = l.n - l.p

@@ -10,7 +10,8 @@ use Rattle.migrate.proofs.migrate_all.Given as goal
 
 abbrev pub invariant-loop-at : goal.invariant-loop-at
 invariant-loop-at l =
-    (l.a ≤ l.at) × (l.at ≤ l.e) × (l.to ≤ l.wp) × (l.wp + (l.e - l.at) ≤ l.to + (l.e - l.a)) × (length l.img ≡ length l.initial.img)
+    (l.a ≤ l.at) × (l.at ≤ l.e) × (l.to ≤ l.wp) × (l.wp + (l.e - l.at) ≤ l.to + (l.e - l.a))
+    × (length l.img ≡ length l.initial.img)
     × Kept l.slots l.mem (mem_of l.keys l.places l.mem.erased)
     × Through l.g (run_of l.g l.slots l.initial.img l.mem l.a l.e l.to) l.initial.img l.initial.power l.img l.power
     (run_of l.g l.slots l.img (mem_of l.keys l.places l.mem.erased) l.at l.e l.wp)

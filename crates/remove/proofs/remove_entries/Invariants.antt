@@ -9,7 +9,8 @@ use Rattle.remove.proofs.remove_entries.Given as goal
 
 abbrev pub invariant-loop-at : goal.invariant-loop-at
 invariant-loop-at l =
-    (l.a ≤ l.at) × (l.at ≤ l.e) × (length l.img ≡ length l.initial.img) × EntriesOn l.w (which_of l.t) l.e l.a l.initial.img l.initial.power l.at l.img l.power
+    (l.a ≤ l.at) × (l.at ≤ l.e) × (length l.img ≡ length l.initial.img)
+    × EntriesOn l.w (which_of l.t) l.e l.a l.initial.img l.initial.power l.at l.img l.power
 
 abbrev pub decreases-loop-at : goal.decreases-loop-at
 decreases-loop-at l = l.e - l.at

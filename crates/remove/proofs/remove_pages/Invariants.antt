@@ -9,7 +9,8 @@ use Rattle.remove.proofs.remove_pages.Given as goal
 
 abbrev pub invariant-loop-m : goal.invariant-loop-m
 invariant-loop-m l =
-    (l.p < l.g.pages) × (length l.img ≡ length l.initial.img) × PagesOn l.g (which_of l.t) l.from l.initial.img l.initial.power l.m l.p l.img l.power
+    (l.p < l.g.pages) × (length l.img ≡ length l.initial.img)
+    × PagesOn l.g (which_of l.t) l.from l.initial.img l.initial.power l.m l.p l.img l.power
 
 abbrev pub decreases-loop-m : goal.decreases-loop-m
 decreases-loop-m l = l.m

@@ -13,11 +13,18 @@ pub returns-then-end_only : goal.returns-then-end_only
 returns-then-end_only c =
     let a = c.args in
     let l = c.loop-p in
-    let q = sym (first_yes a.g Corrupted a.img.now l.p c.loop-p-test.true (sym c.end_only.ensures ∙ c.if-end_only.true)) ∙ l.invariant.2 in
+    let q = sym (first_yes a.g Corrupted a.img.now l.p c.loop-p-test.true (sym c.end_only.ensures ∙ c.if-end_only.true))
+    ∙ l.invariant.2 in
     rw (← q) (sym (lt-ltb l.p a.g.pages c.loop-p-test.true))
 
 pub loop-p-preserved : goal.loop-p-preserved
-loop-p-preserved c = let a = c.args in (omega arith, refl, sym (first_no a.g Corrupted a.img.now c.loop-p.p c.loop-p-test.true (sym c.end_only.ensures ∙ c.if-end_only.false)) ∙ c.loop-p.invariant.2)
+loop-p-preserved c =
+    let a = c.args in (
+      omega arith,
+      refl,
+      sym (first_no a.g Corrupted a.img.now c.loop-p.p c.loop-p-test.true
+          (sym c.end_only.ensures ∙ c.if-end_only.false)) ∙ c.loop-p.invariant.2,
+    )
 
 pub returns : goal.returns
 returns c =

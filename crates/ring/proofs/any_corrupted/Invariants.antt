@@ -5,7 +5,9 @@ use Rattle.rules.specs.declared.{PageState.TheVariants.Corrupted}
 use Rattle.ring.proofs.any_corrupted.Given as goal
 
 abbrev pub invariant-loop-p : goal.invariant-loop-p
-invariant-loop-p l = (l.p ≤ l.n) × (l.n ≡ l.g.pages) × (first_with l.g Corrupted l.img (up_from l.p (l.g.pages - l.p)) ≡ first_page l.g Corrupted l.img)
+invariant-loop-p l =
+    (l.p ≤ l.n) × (l.n ≡ l.g.pages)
+    × (first_with l.g Corrupted l.img (up_from l.p (l.g.pages - l.p)) ≡ first_page l.g Corrupted l.img)
 
 abbrev pub decreases-loop-p : goal.decreases-loop-p
 decreases-loop-p l = l.n - l.p

@@ -6,7 +6,8 @@ pub returns-then-marked : goal.returns-then-marked
 returns-then-marked c =
     let a = c.args in
     let b = c.base-a in
-    let s = state-code a.g a.img.now a.p b.result c.marked-then-marked.result _ c.state_of.result b.ensures.0 c.marked-then-marked.ensures (sym c.if-marked.true ∙ c.marked.ensures) c.state_of.ensures in
+    let s = state-code a.g a.img.now a.p b.result c.marked-then-marked.result _ c.state_of.result b.ensures.0
+    c.marked-then-marked.ensures (sym c.if-marked.true ∙ c.marked.ensures) c.state_of.ensures in
     rw (← s) c.is.ensures
 
 pub returns : goal.returns

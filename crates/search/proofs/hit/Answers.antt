@@ -25,18 +25,32 @@ returns-then-g-r c = (rw (lt-ltb _ _ c.if-g-a.false, le-leb _ _ c.if-r-g.false, 
 
 pub returns-then-r-g-ne0 : goal.returns-then-r-g-ne0
 unfolding hit
-returns-then-r-g-ne0 c = (rw (lt-ltb _ _ c.if-g-a.false, le-leb _ _ c.if-r-g.false, le-leb _ _ c.if-g-r.false, ne_eqb _ _ c.if-r-g-ne0.true), tt)
+returns-then-r-g-ne0 c = (
+  rw (lt-ltb _ _ c.if-g-a.false, le-leb _ _ c.if-r-g.false, le-leb _ _ c.if-g-r.false, ne_eqb _ _ c.if-r-g-ne0.true),
+  tt,
+)
 
 pub hit_at-requires : goal.hit_at-requires
-hit_at-requires c = let a = c.args in let h = hit_in a.g (length a.img.now) a.a c.requires.0 c.if-g-a.false c.if-g-r.false in omega arith
+hit_at-requires c =
+    let a = c.args in
+    let h = hit_in a.g (length a.img.now) a.a c.requires.0 c.if-g-a.false c.if-g-r.false in
+    omega arith
 
 pub returns : goal.returns
 unfolding hit
-returns c = let a = c.args in
+returns c =
+    let a = c.args in
     let h = hit_in a.g (length a.img.now) a.a c.requires.0 c.if-g-a.false c.if-g-r.false in
     let r = a.a % a.g.page in
-    let here : spot_of c.hit_at.result ≡ told (hit_item a.key a.a (read a.g.word (part a.img.now a.a (a.a + (a.g.page - a.g.word - r))))) = c.hit_at.ensures.0 in
+    let here : spot_of c.hit_at.result
+    ≡ told (hit_item a.key a.a (read a.g.word (part a.img.now a.a (a.a + (a.g.page - a.g.word - r))))) =
+    c.hit_at.ensures.0 in
     let q : a.a + (a.g.page - a.g.word - r) - a.a ≡ a.g.page - a.g.word - r = omega arith in (
-      rw (lt-ltb _ _ c.if-g-a.false, le-leb _ _ c.if-r-g.false, le-leb _ _ c.if-g-r.false, eq-eqb _ _ c.if-r-g-ne0.false) (rw q at here),
+      rw (
+        lt-ltb _ _ c.if-g-a.false,
+        le-leb _ _ c.if-r-g.false,
+        le-leb _ _ c.if-g-r.false,
+        eq-eqb _ _ c.if-r-g-ne0.false,
+      ) (rw q at here),
       spot_mono _ _ (spot_of c.hit_at.result) (omega arith) c.hit_at.ensures.1,
     )

@@ -6,7 +6,10 @@ use Rattle.ring.specs.Code.{downs}
 use Rattle.search.proofs.search_closed.Given as goal
 
 abbrev pub invariant-loop-m : goal.invariant-loop-m
-invariant-loop-m l = (l.q < l.g.pages) × (told (search_closed l.g l.img l.key (downs l.g l.m l.q)) ≡ told (search_closed l.g l.img l.key (downs l.g l.count l.from)))
+invariant-loop-m l =
+    (l.q < l.g.pages)
+    × (told (search_closed l.g l.img l.key (downs l.g l.m l.q))
+    ≡ told (search_closed l.g l.img l.key (downs l.g l.count l.from)))
 
 abbrev pub decreases-loop-m : goal.decreases-loop-m
 decreases-loop-m l = l.m

@@ -12,8 +12,8 @@ abbrev pub invariant-loop-t : goal.invariant-loop-t
 invariant-loop-t l =
     (l.t ≤ l.g.pages) × (length l.img ≡ length l.initial.img) × Past l.slots l.initial.held.cache l.held.cache
     × (l.held.erased + l.t ≤ l.initial.held.erased + l.g.pages)
-    × Through l.g (turns l.g l.g.pages l.key l.v (st_of l.slots l.initial.img l.initial.held)) l.initial.img l.initial.power l.img l.power
-    (turns l.g l.t l.key l.v (st_of l.slots l.img l.held))
+    × Through l.g (turns l.g l.g.pages l.key l.v (st_of l.slots l.initial.img l.initial.held)) l.initial.img
+    l.initial.power l.img l.power (turns l.g l.t l.key l.v (st_of l.slots l.img l.held))
 
 abbrev pub decreases-loop-t : goal.decreases-loop-t
 decreases-loop-t l = l.t

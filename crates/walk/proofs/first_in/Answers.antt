@@ -10,15 +10,21 @@ loop-at-init c = (omega arith, refl)
 pub returns-in-End : goal.returns-in-End
 returns-in-End c =
     let a = c.args in
-    let l = c.loop-at in
-    (first_end a.w (omega arith) a.img.now a.e (omega arith) l.at _ l.invariant.1 c.look_at-r.result c.loop-at-test.true c.look_at-r.ensures.0 c.in-End.is, tt)
+    let l = c.loop-at in (
+      first_end a.w (omega arith) a.img.now a.e (omega arith) l.at _ l.invariant.1 c.look_at-r.result
+          c.loop-at-test.true c.look_at-r.ensures.0 c.in-End.is,
+      tt,
+    )
 
 pub loop-at-preserved-in-Skip : goal.loop-at-preserved-in-Skip
 loop-at-preserved-in-Skip c =
     let a = c.args in
     let l = c.loop-at in
-    let f = rw c.in-Skip.is at c.look_at-r.ensures.1 in
-    (omega arith, first_skip a.w (omega arith) a.img.now a.e (omega arith) l.at _ l.invariant.1 c.look_at-r.result c.loop-at-test.true c.look_at-r.ensures.0 c.in-Skip.is)
+    let f = rw c.in-Skip.is at c.look_at-r.ensures.1 in (
+      omega arith,
+      first_skip a.w (omega arith) a.img.now a.e (omega arith) l.at _ l.invariant.1 c.look_at-r.result
+          c.loop-at-test.true c.look_at-r.ensures.0 c.in-Skip.is,
+    )
 
 pub present-requires : goal.present-requires
 present-requires c =
@@ -32,8 +38,11 @@ returns-then-present c =
     let a = c.args in
     let l = c.loop-at in
     let f = rw c.in-Item.is at c.look_at-r.ensures.1 in
-    let k = rw c.if-present.true at c.present.ensures.1 in
-    (first_at a.w (omega arith) a.img.now a.e (omega arith) l.at _ l.invariant.1 c.look_at-r.result c.loop-at-test.true c.look_at-r.ensures.0 c.in-Item.len c.present.result c.in-Item.is c.present.ensures.0 c.if-present.true, omega arith)
+    let k = rw c.if-present.true at c.present.ensures.1 in (
+      first_at a.w (omega arith) a.img.now a.e (omega arith) l.at _ l.invariant.1 c.look_at-r.result c.loop-at-test.true
+          c.look_at-r.ensures.0 c.in-Item.len c.present.result c.in-Item.is c.present.ensures.0 c.if-present.true,
+      omega arith,
+    )
 
 pub size-at-requires : goal.size-at-requires
 size-at-requires c = let f = rw c.in-Item.is at c.look_at-r.ensures.1 in omega arith
@@ -45,8 +54,12 @@ pub loop-at-preserved : goal.loop-at-preserved
 loop-at-preserved c =
     let a = c.args in
     let l = c.loop-at in
-    let f = rw c.in-Item.is at c.look_at-r.ensures.1 in
-    (omega arith, rw c.size-at.ensures.0 (first_on a.w (omega arith) a.img.now a.e (omega arith) l.at _ l.invariant.1 c.look_at-r.result c.loop-at-test.true c.look_at-r.ensures.0 c.in-Item.len c.present.result c.in-Item.is c.present.ensures.0 c.if-present.false))
+    let f = rw c.in-Item.is at c.look_at-r.ensures.1 in (
+      omega arith,
+      rw c.size-at.ensures.0 (first_on a.w (omega arith) a.img.now a.e (omega arith) l.at _ l.invariant.1
+          c.look_at-r.result c.loop-at-test.true c.look_at-r.ensures.0 c.in-Item.len c.present.result c.in-Item.is
+          c.present.ensures.0 c.if-present.false),
+    )
 
 pub returns : goal.returns
 returns c =

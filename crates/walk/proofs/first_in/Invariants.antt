@@ -7,7 +7,9 @@ use Rattle.walk.specs.Code.{head_spot}
 use Rattle.walk.proofs.first_in.Given as goal
 
 abbrev pub invariant-loop-at : goal.invariant-loop-at
-invariant-loop-at l = (l.at ≤ l.e) × (head_spot (presents (scan_in l.w l.img l.at l.e).items) ≡ head_spot (presents (scan_in l.w l.img l.a l.e).items))
+invariant-loop-at l =
+    (l.at ≤ l.e)
+    × (head_spot (presents (scan_in l.w l.img l.at l.e).items) ≡ head_spot (presents (scan_in l.w l.img l.a l.e).items))
 
 abbrev pub decreases-loop-at : goal.decreases-loop-at
 decreases-loop-at l = l.e - l.at

@@ -9,10 +9,27 @@ pub returns-then-g-c-2 : goal.returns-then-g-c-2
 returns-then-g-c-2 c = rw (lt-ltb _ _ c.if-g-c.false, le-ltb _ _ c.if-g-c-2.true)
 
 pub returns-then-c-data_at : goal.returns-then-c-data_at
-returns-then-c-data_at c = rw (lt-ltb _ _ c.if-g-c.false, lt-ltb _ _ c.if-g-c-2.false, ← c.data_at.ensures.0, lt-leb _ _ c.if-c-data_at.true)
+returns-then-c-data_at c =
+    rw (lt-ltb _ _ c.if-g-c.false, lt-ltb _ _ c.if-g-c-2.false, ← c.data_at.ensures.0, lt-leb _ _ c.if-c-data_at.true)
 
 pub returns-then-end_at-c : goal.returns-then-end_at-c
-returns-then-end_at-c c = rw (lt-ltb _ _ c.if-g-c.false, lt-ltb _ _ c.if-g-c-2.false, ← c.data_at.ensures.0, le-leb _ _ c.if-c-data_at.false, ← c.end_at.ensures.0, lt-leb _ _ c.if-end_at-c.true)
+returns-then-end_at-c c =
+    rw (
+      lt-ltb _ _ c.if-g-c.false,
+      lt-ltb _ _ c.if-g-c-2.false,
+      ← c.data_at.ensures.0,
+      le-leb _ _ c.if-c-data_at.false,
+      ← c.end_at.ensures.0,
+      lt-leb _ _ c.if-end_at-c.true,
+    )
 
 pub returns : goal.returns
-returns c = rw (lt-ltb _ _ c.if-g-c.false, lt-ltb _ _ c.if-g-c-2.false, ← c.data_at.ensures.0, le-leb _ _ c.if-c-data_at.false, ← c.end_at.ensures.0, le-leb _ _ c.if-end_at-c.false)
+returns c =
+    rw (
+      lt-ltb _ _ c.if-g-c.false,
+      lt-ltb _ _ c.if-g-c-2.false,
+      ← c.data_at.ensures.0,
+      le-leb _ _ c.if-c-data_at.false,
+      ← c.end_at.ensures.0,
+      le-leb _ _ c.if-end_at-c.false,
+    )

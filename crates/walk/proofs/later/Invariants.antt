@@ -8,7 +8,10 @@ use Rattle.walk.specs.Code.{told_step}
 use Rattle.walk.proofs.later.Given as goal
 
 abbrev pub invariant-loop-m : goal.invariant-loop-m
-invariant-loop-m l = (l.q < l.g.pages) × (told_step (later_pages l.g l.img l.first (ups l.g l.m l.q)) ≡ told_step (later_pages l.g l.img l.first (ring_up l.g l.from)))
+invariant-loop-m l =
+    (l.q < l.g.pages)
+    × (told_step (later_pages l.g l.img l.first (ups l.g l.m l.q))
+    ≡ told_step (later_pages l.g l.img l.first (ring_up l.g l.from)))
 
 abbrev pub decreases-loop-m : goal.decreases-loop-m
 decreases-loop-m l = l.m

@@ -32,13 +32,19 @@ key-requires c =
     omega arith
 
 pub returns-in-Corrupt : goal.returns-in-Corrupt
-returns-in-Corrupt c = let a = c.args in in_bad a.g a.img.now a.c c.end_at-e.result c.first_in-r.result c.end_at-e.ensures.0 c.first_in-r.ensures.0 c.in-Corrupt.is
+returns-in-Corrupt c =
+    let a = c.args in
+    in_bad a.g a.img.now a.c c.end_at-e.result c.first_in-r.result c.end_at-e.ensures.0 c.first_in-r.ensures.0
+    c.in-Corrupt.is
 
 pub returns-in-Missing : goal.returns-in-Missing
-returns-in-Missing c = let a = c.args in in_missing a.g a.img.now a.c c.end_at-e.result c.first_in-r.result c.end_at-e.ensures.0 c.first_in-r.ensures.0 c.in-Missing.is
+returns-in-Missing c =
+    let a = c.args in
+    in_missing a.g a.img.now a.c c.end_at-e.result c.first_in-r.result c.end_at-e.ensures.0 c.first_in-r.ensures.0
+    c.in-Missing.is
 
 pub returns-in-At : goal.returns-in-At
 returns-in-At c =
     let a = c.args in
-    in_at a.g a.img.now a.c c.end_at-e.result c.first_in-r.result c.end_at-e.ensures.0 c.first_in-r.ensures.0
-    c.in-At.at c.in-At.len c.size.result c.key.result c.in-At.is c.size.ensures.0 c.key.ensures (omega arith) (omega arith)
+    in_at a.g a.img.now a.c c.end_at-e.result c.first_in-r.result c.end_at-e.ensures.0 c.first_in-r.ensures.0 c.in-At.at
+    c.in-At.len c.size.result c.key.result c.in-At.is c.size.ensures.0 c.key.ensures (omega arith) (omega arith)

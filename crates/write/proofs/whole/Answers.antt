@@ -7,4 +7,8 @@ pub overflow_mul-result : goal.overflow_mul-result
 overflow_mul-result c = omega (arith, div-add-mod' c.args.n c.args.w)
 
 pub returns : goal.returns
-returns c = (omega (arith, div-add-mod' c.args.n c.args.w), omega (arith, div-add-mod' c.args.n c.args.w, mod-lt c.args.n c.requires), mul-mod_left (c.args.n / c.args.w) c.args.w)
+returns c = (
+  omega (arith, div-add-mod' c.args.n c.args.w),
+  omega (arith, div-add-mod' c.args.n c.args.w, mod-lt c.args.n c.requires),
+  mul-mod_left (c.args.n / c.args.w) c.args.w,
+)

@@ -7,8 +7,12 @@ loop-i-init c = (omega arith, omega arith, refl)
 
 pub loop-i-preserved : goal.loop-i-preserved
 loop-i-preserved c =
-    let l = c.loop-i in
-    (omega arith, c.mix-h.ensures.1, rw (c.mix-h.ensures.0, c.wide.ensures.0) (sym (digest_step l.h c.args.s.now l.i c.loop-i-test.true) ∙ l.invariant.2))
+    let l = c.loop-i in (
+      omega arith,
+      c.mix-h.ensures.1,
+      rw (c.mix-h.ensures.0, c.wide.ensures.0)
+          (sym (digest_step l.h c.args.s.now l.i c.loop-i-test.true) ∙ l.invariant.2),
+    )
 
 pub returns : goal.returns
 returns c = let l = c.loop-i in sym (digest-end l.h c.args.s.now l.i c.loop-i-test.false) ∙ l.invariant.2

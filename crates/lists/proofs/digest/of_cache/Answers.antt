@@ -10,8 +10,12 @@ loop-i-preserved c =
     let l = c.loop-i in
     let a = c.args.cache in
     let g : length a.keys ≡ 32 = search rules in
-    let f : length a.places ≡ 32 = search rules in
-    (omega arith, c.mix-h.ensures.1, rw (c.mix-h.ensures.0, c.wide32-in-loop-i.ensures.0, c.mix-k.ensures.0, c.wide32.ensures.0) (sym (from_step l.h a l.i (omega arith) (omega arith)) ∙ l.invariant.2))
+    let f : length a.places ≡ 32 = search rules in (
+      omega arith,
+      c.mix-h.ensures.1,
+      rw (c.mix-h.ensures.0, c.wide32-in-loop-i.ensures.0, c.mix-k.ensures.0, c.wide32.ensures.0)
+          (sym (from_step l.h a l.i (omega arith) (omega arith)) ∙ l.invariant.2),
+    )
 
 pub returns : goal.returns
 returns c =

@@ -13,8 +13,20 @@ returns-then-l-gt8 c = rw (ne_eqb _ _ c.if-l-eq0.false, lt-ltb _ _ c.if-l-gt8.tr
 
 pub returns-then-x-gt4294967295 : goal.returns-then-x-gt4294967295
 unfolding grown
-returns-then-x-gt4294967295 c = rw (ne_eqb _ _ c.if-l-eq0.false, le-ltb _ _ c.if-l-gt8.false, ← c.wide.ensures.0, lt-ltb _ _ c.if-x-gt4294967295.true) c.broken-then-x-gt4294967295.ensures
+returns-then-x-gt4294967295 c =
+    rw (
+      ne_eqb _ _ c.if-l-eq0.false,
+      le-ltb _ _ c.if-l-gt8.false,
+      ← c.wide.ensures.0,
+      lt-ltb _ _ c.if-x-gt4294967295.true,
+    ) c.broken-then-x-gt4294967295.ensures
 
 pub returns : goal.returns
 unfolding grown
-returns c = rw (ne_eqb _ _ c.if-l-eq0.false, le-ltb _ _ c.if-l-gt8.false, ← c.wide.ensures.0, le-ltb _ _ c.if-x-gt4294967295.false)
+returns c =
+    rw (
+      ne_eqb _ _ c.if-l-eq0.false,
+      le-ltb _ _ c.if-l-gt8.false,
+      ← c.wide.ensures.0,
+      le-ltb _ _ c.if-x-gt4294967295.false,
+    )

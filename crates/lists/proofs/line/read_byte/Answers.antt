@@ -17,16 +17,46 @@ returns-then-l-eq63 c = rw (ne_eqb _ _ c.if-l-eq10.false, ne_eqb _ _ c.if-l-eq35
 
 pub returns-then-b-eq32 : goal.returns-then-b-eq32
 unfolding read_byte
-returns-then-b-eq32 c = rw (ne_eqb _ _ c.if-l-eq10.false, ne_eqb _ _ c.if-l-eq35.false, ne_eqb _ _ c.if-l-eq63.false, eq-eqb _ _ c.if-b-eq32.true) c.begin.ensures
+returns-then-b-eq32 c =
+    rw (
+      ne_eqb _ _ c.if-l-eq10.false,
+      ne_eqb _ _ c.if-l-eq35.false,
+      ne_eqb _ _ c.if-l-eq63.false,
+      eq-eqb _ _ c.if-b-eq32.true,
+    ) c.begin.ensures
 
 pub returns-then-b-lt48 : goal.returns-then-b-lt48
 unfolding read_byte
-returns-then-b-lt48 c = rw (ne_eqb _ _ c.if-l-eq10.false, ne_eqb _ _ c.if-l-eq35.false, ne_eqb _ _ c.if-l-eq63.false, ne_eqb _ _ c.if-b-eq32.false, lt-ltb _ _ c.if-b-lt48.true) c.broken.ensures
+returns-then-b-lt48 c =
+    rw (
+      ne_eqb _ _ c.if-l-eq10.false,
+      ne_eqb _ _ c.if-l-eq35.false,
+      ne_eqb _ _ c.if-l-eq63.false,
+      ne_eqb _ _ c.if-b-eq32.false,
+      lt-ltb _ _ c.if-b-lt48.true,
+    ) c.broken.ensures
 
 pub returns-then-b-gt57 : goal.returns-then-b-gt57
 unfolding read_byte
-returns-then-b-gt57 c = rw (ne_eqb _ _ c.if-l-eq10.false, ne_eqb _ _ c.if-l-eq35.false, ne_eqb _ _ c.if-l-eq63.false, ne_eqb _ _ c.if-b-eq32.false, le-ltb _ _ c.if-b-lt48.false, lt-ltb _ _ c.if-b-gt57.true) c.broken-then-b-gt57.ensures
+returns-then-b-gt57 c =
+    rw (
+      ne_eqb _ _ c.if-l-eq10.false,
+      ne_eqb _ _ c.if-l-eq35.false,
+      ne_eqb _ _ c.if-l-eq63.false,
+      ne_eqb _ _ c.if-b-eq32.false,
+      le-ltb _ _ c.if-b-lt48.false,
+      lt-ltb _ _ c.if-b-gt57.true,
+    ) c.broken-then-b-gt57.ensures
 
 pub returns : goal.returns
 unfolding read_byte
-returns c = rw (ne_eqb _ _ c.if-l-eq10.false, ne_eqb _ _ c.if-l-eq35.false, ne_eqb _ _ c.if-l-eq63.false, ne_eqb _ _ c.if-b-eq32.false, le-ltb _ _ c.if-b-lt48.false, le-ltb _ _ c.if-b-gt57.false, ← c.digit.ensures.0) c.grow.ensures
+returns c =
+    rw (
+      ne_eqb _ _ c.if-l-eq10.false,
+      ne_eqb _ _ c.if-l-eq35.false,
+      ne_eqb _ _ c.if-l-eq63.false,
+      ne_eqb _ _ c.if-b-eq32.false,
+      le-ltb _ _ c.if-b-lt48.false,
+      le-ltb _ _ c.if-b-gt57.false,
+      ← c.digit.ensures.0,
+    ) c.grow.ensures

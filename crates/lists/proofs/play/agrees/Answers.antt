@@ -13,8 +13,23 @@ returns-then-told-s c = rw (← c.number.ensures, eq-eqb _ _ c.if-number-s.false
 
 pub returns-then-of_bytes-s : goal.returns-then-of_bytes-s
 unfolding agrees
-returns-then-of_bytes-s c = rw (← c.number.ensures, eq-eqb _ _ c.if-number-s.false, eq-eqb _ _ c.if-told-s.false, ← c.of_bytes.ensures, ne_eqb _ _ c.if-of_bytes-s.true)
+returns-then-of_bytes-s c =
+    rw (
+      ← c.number.ensures,
+      eq-eqb _ _ c.if-number-s.false,
+      eq-eqb _ _ c.if-told-s.false,
+      ← c.of_bytes.ensures,
+      ne_eqb _ _ c.if-of_bytes-s.true,
+    )
 
 pub returns : goal.returns
 unfolding agrees
-returns c = rw (← c.number.ensures, eq-eqb _ _ c.if-number-s.false, eq-eqb _ _ c.if-told-s.false, ← c.of_bytes.ensures, eq-eqb _ _ c.if-of_bytes-s.false, ← c.of_cache.ensures)
+returns c =
+    rw (
+      ← c.number.ensures,
+      eq-eqb _ _ c.if-number-s.false,
+      eq-eqb _ _ c.if-told-s.false,
+      ← c.of_bytes.ensures,
+      eq-eqb _ _ c.if-of_bytes-s.false,
+      ← c.of_cache.ensures,
+    )

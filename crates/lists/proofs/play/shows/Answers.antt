@@ -13,8 +13,16 @@ returns-then-s-v-2 c = rw (← c.show-s.ensures, eq-eqb _ _ c.if-s-v.false, ne_e
 
 pub returns-then-s-v-3 : goal.returns-then-s-v-3
 unfolding shows
-returns-then-s-v-3 c = rw (← c.show-s.ensures, eq-eqb _ _ c.if-s-v.false, eq-eqb _ _ c.if-s-v-2.false, ne_eqb _ _ c.if-s-v-3.true)
+returns-then-s-v-3 c =
+    rw (← c.show-s.ensures, eq-eqb _ _ c.if-s-v.false, eq-eqb _ _ c.if-s-v-2.false, ne_eqb _ _ c.if-s-v-3.true)
 
 pub returns : goal.returns
 unfolding shows
-returns c = rw (← c.show-s.ensures, eq-eqb _ _ c.if-s-v.false, eq-eqb _ _ c.if-s-v-2.false, eq-eqb _ _ c.if-s-v-3.false, ← c.view.ensures) c.follows.ensures
+returns c =
+    rw (
+      ← c.show-s.ensures,
+      eq-eqb _ _ c.if-s-v.false,
+      eq-eqb _ _ c.if-s-v-2.false,
+      eq-eqb _ _ c.if-s-v-3.false,
+      ← c.view.ensures,
+    ) c.follows.ensures

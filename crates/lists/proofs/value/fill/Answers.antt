@@ -9,8 +9,12 @@ loop-i-init c = (omega arith, refl, rw (sub-zero (length c.args.s.now)))
 pub loop-i-preserved : goal.loop-i-preserved
 loop-i-preserved c =
     let l = c.loop-i in
-    let a = c.args in
-    (omega arith, simp length-set l.invariant.1, rw c.wrapping_add_u8-b.ensures.value (value_step l.s (length a.s.now) l.i l.b a.step l.invariant.1 (omega arith) ∙ l.invariant.2))
+    let a = c.args in (
+      omega arith,
+      simp length-set l.invariant.1,
+      rw c.wrapping_add_u8-b.ensures.value
+          (value_step l.s (length a.s.now) l.i l.b a.step l.invariant.1 (omega arith) ∙ l.invariant.2),
+    )
 
 pub returns : goal.returns
 returns c =

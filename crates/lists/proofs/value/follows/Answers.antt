@@ -15,8 +15,11 @@ returns-then-s-i c =
 pub loop-i-preserved : goal.loop-i-preserved
 loop-i-preserved c =
     let l = c.loop-i in
-    let a = c.args in
-    (omega arith, rw c.wrapping_add_u8-b.ensures.value (sym (alike_yes a.s.now l.i l.b a.step c.loop-i-test.true c.if-s-i.false) ∙ l.invariant.1))
+    let a = c.args in (
+      omega arith,
+      rw c.wrapping_add_u8-b.ensures.value
+          (sym (alike_yes a.s.now l.i l.b a.step c.loop-i-test.true c.if-s-i.false) ∙ l.invariant.1),
+    )
 
 pub returns : goal.returns
 returns c =

@@ -15,7 +15,8 @@ returns-then-s-ne0 c = record { value = rw (ne_eqb _ _ c.if-s-ne0.true); by_inde
 
 pub returns-then-out-n : goal.returns-then-out-n
 unfolding hex_answer
-returns-then-out-n c = record { value = rw (eq-eqb _ _ c.if-s-ne0.false, lt-ltb _ _ c.if-out-n.true); by_index = λ n e. long_counts n e }
+returns-then-out-n c =
+    record { value = rw (eq-eqb _ _ c.if-s-ne0.false, lt-ltb _ _ c.if-out-n.true); by_index = λ n e. long_counts n e }
 
 pub loop-i-init : goal.loop-i-init
 loop-i-init c = (search rules, refl, refl, refl)
@@ -24,15 +25,24 @@ pub returns-then-high-gt15 : goal.returns-then-high-gt15
 unfolding hex_answer
 returns-then-high-gt15 c =
     let s = c.args.s.now in
-    let bad : all_pairs s ≡ false = sym c.loop-i.invariant.3 ∙ high_bad s c.loop-i.i (omega arith) (rw c.digit-high.ensures.0 at c.if-high-gt15.true) in
-    record { value = rw (eq-eqb _ _ c.if-s-ne0.false, le-ltb _ _ c.if-out-n.false, bad); by_index = λ n e. bad_counts n e }
+    let bad : all_pairs s ≡ false =
+    sym c.loop-i.invariant.3 ∙ high_bad s c.loop-i.i (omega arith) (rw c.digit-high.ensures.0 at c.if-high-gt15.true) in
+    record {
+      value = rw (eq-eqb _ _ c.if-s-ne0.false, le-ltb _ _ c.if-out-n.false, bad);
+      by_index = λ n e. bad_counts n e;
+    }
 
 pub returns-then-low-gt15 : goal.returns-then-low-gt15
 unfolding hex_answer
 returns-then-low-gt15 c =
     let s = c.args.s.now in
-    let bad : all_pairs s ≡ false = sym c.loop-i.invariant.3 ∙ low_bad s c.loop-i.i (omega arith) (rw c.digit-high.ensures.0 at c.if-high-gt15.false) (rw c.digit-low.ensures.0 at c.if-low-gt15.true) in
-    record { value = rw (eq-eqb _ _ c.if-s-ne0.false, le-ltb _ _ c.if-out-n.false, bad); by_index = λ n e. bad_counts n e }
+    let bad : all_pairs s ≡ false = sym c.loop-i.invariant.3
+    ∙ low_bad s c.loop-i.i (omega arith) (rw c.digit-high.ensures.0 at c.if-high-gt15.false)
+    (rw c.digit-low.ensures.0 at c.if-low-gt15.true) in
+    record {
+      value = rw (eq-eqb _ _ c.if-s-ne0.false, le-ltb _ _ c.if-out-n.false, bad);
+      by_index = λ n e. bad_counts n e;
+    }
 
 pub loop-i-preserved : goal.loop-i-preserved
 loop-i-preserved c =
@@ -40,8 +50,10 @@ loop-i-preserved c =
     let h : 2 * c.loop-i.i + 1 < length s = omega arith in (
       omega arith,
       search rules,
-      rw (c.digit-high.ensures.0, c.digit-low.ensures.0) (next_byte c.loop-i.out _ c.loop-i.i _ (omega arith) ∙ rw (← pair_byte s c.loop-i.i h) c.loop-i.invariant.2),
-      sym (pair_good s c.loop-i.i h (rw c.digit-high.ensures.0 at c.if-high-gt15.false) (rw c.digit-low.ensures.0 at c.if-low-gt15.false)) ∙ c.loop-i.invariant.3,
+      rw (c.digit-high.ensures.0, c.digit-low.ensures.0)
+          (next_byte c.loop-i.out _ c.loop-i.i _ (omega arith) ∙ rw (← pair_byte s c.loop-i.i h) c.loop-i.invariant.2),
+      sym (pair_good s c.loop-i.i h (rw c.digit-high.ensures.0 at c.if-high-gt15.false)
+          (rw c.digit-low.ensures.0 at c.if-low-gt15.false)) ∙ c.loop-i.invariant.3,
     )
 
 pub returns : goal.returns

@@ -7,7 +7,9 @@ use Rattle.tool.specs.Hex.{spelled, all_pairs}
 use Rattle.tool.proofs.hex.read.Given as goal
 
 abbrev pub invariant-loop-i : goal.invariant-loop-i
-invariant-loop-i l = (l.i ≤ l.n) × (length l.out ≡ length l.initial.out) × (take l.i l.out ++ spelled (drop (2 * l.i) l.s) ≡ spelled l.s) × (all_pairs (drop (2 * l.i) l.s) ≡ all_pairs l.s)
+invariant-loop-i l =
+    (l.i ≤ l.n) × (length l.out ≡ length l.initial.out) × (take l.i l.out ++ spelled (drop (2 * l.i) l.s) ≡ spelled l.s)
+    × (all_pairs (drop (2 * l.i) l.s) ≡ all_pairs l.s)
 
 abbrev pub decreases-loop-i : goal.decreases-loop-i
 decreases-loop-i l = l.n - l.i

@@ -14,7 +14,8 @@ loop-k-init c =
 pub returns-then-keys-k : goal.returns-then-keys-k
 returns-then-keys-k c =
     let a = c.args in
-    sym (member_at (get_or a.keys.now a.i 0) a.keys.now (a.i + 1) c.loop-k.k c.loop-k.invariant.0 c.loop-k-test.true c.if-keys-k.true)
+    sym (member_at (get_or a.keys.now a.i 0) a.keys.now (a.i + 1) c.loop-k.k c.loop-k.invariant.0 c.loop-k-test.true
+    c.if-keys-k.true)
 
 pub overflow_cast-k-in-loop-k : goal.overflow_cast-k-in-loop-k
 overflow_cast-k-in-loop-k c = omega (arith, c.type_inv.next c.loop-k.k)
@@ -30,11 +31,13 @@ loop-k-preserved c =
     let ch = c.requires.0.1 c.loop-k.k c.loop-k.invariant.0 c.loop-k-test.true in (
       omega (arith, ch.from),
       ch.last,
-      absent_next a.slots a.keys.now (a.i + 1) (get_or a.keys.now a.i 0) c.loop-k.k (get_or a.next.now c.loop-k.k 0) c.loop-k.invariant.2 c.if-keys-k.false s ch,
+      absent_next a.slots a.keys.now (a.i + 1) (get_or a.keys.now a.i 0) c.loop-k.k (get_or a.next.now c.loop-k.k 0)
+          c.loop-k.invariant.2 c.if-keys-k.false s ch,
       λ f. ch.same f ∙ s,
     )
 
 pub returns : goal.returns
 returns c =
     let a = c.args in
-    sym (member-none (get_or a.keys.now a.i 0) a.keys.now (a.i + 1) (λ m f g e. c.loop-k.invariant.2 m f (omega arith) e))
+    sym
+    (member-none (get_or a.keys.now a.i 0) a.keys.now (a.i + 1) (λ m f g e. c.loop-k.invariant.2 m f (omega arith) e))

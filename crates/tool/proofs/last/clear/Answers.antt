@@ -11,7 +11,8 @@ pub loop-k-init : goal.loop-k-init
 loop-k-init c = (search rules, refl, fill_none c.args.table.now c.args.n)
 
 pub loop-k-preserved : goal.loop-k-preserved
-loop-k-preserved c = (search rules, search rules, rw c.loop-k.invariant.2 (fill_more c.loop-k.k c.args.n c.args.table.now (omega arith)))
+loop-k-preserved c =
+    (search rules, search rules, rw c.loop-k.invariant.2 (fill_more c.loop-k.k c.args.n c.args.table.now (omega arith)))
 
 pub returns : goal.returns
 returns c =

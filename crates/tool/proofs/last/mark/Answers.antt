@@ -25,7 +25,8 @@ loop-i-init c =
       search rules,
       refl,
       refl,
-      rw (c.clear.ensures, length-replicate (length a.table.now) (length a.keys.now)) (marked-none (length a.table.now) a.keys.now a.next.now a.marks.now (omega arith)),
+      rw (c.clear.ensures, length-replicate (length a.table.now) (length a.keys.now))
+          (marked-none (length a.table.now) a.keys.now a.next.now a.marks.now (omega arith)),
     )
 
 pub mark_one-requires : goal.mark_one-requires

@@ -47,4 +47,5 @@ unfolding last_mark
 returns c =
     let a = c.args in
     let p = c.requires in
-    marked_one (length a.table.now) a.keys.now a.table.now a.next.now a.marks.now a.i p.0 p.1.key p.1.slot refl c.mark_of.result (omega arith) (c.mark_of.ensures ∙ ap mark_of c.again.ensures)
+    marked_one (length a.table.now) a.keys.now a.table.now a.next.now a.marks.now a.i p.0 p.1.key p.1.slot refl
+    c.mark_of.result (omega arith) (c.mark_of.ensures ∙ ap mark_of c.again.ensures)

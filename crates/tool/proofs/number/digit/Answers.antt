@@ -14,20 +14,58 @@ returns-then-b-lt58 c = (rw (le-ltb _ _ c.if-b-lt48.false, lt-ltb _ _ c.if-b-lt5
 
 pub returns-then-b-lt65 : goal.returns-then-b-lt65
 unfolding digit_of
-returns-then-b-lt65 c = (rw (le-ltb _ _ c.if-b-lt48.false, le-ltb _ _ c.if-b-lt58.false, lt-ltb _ _ c.if-b-lt65.true), search rules)
+returns-then-b-lt65 c =
+    (rw (le-ltb _ _ c.if-b-lt48.false, le-ltb _ _ c.if-b-lt58.false, lt-ltb _ _ c.if-b-lt65.true), search rules)
 
 pub returns-then-b-lt71 : goal.returns-then-b-lt71
 unfolding digit_of
-returns-then-b-lt71 c = (rw (le-ltb _ _ c.if-b-lt48.false, le-ltb _ _ c.if-b-lt58.false, le-ltb _ _ c.if-b-lt65.false, lt-ltb _ _ c.if-b-lt71.true), search rules)
+returns-then-b-lt71 c = (
+  rw (
+    le-ltb _ _ c.if-b-lt48.false,
+    le-ltb _ _ c.if-b-lt58.false,
+    le-ltb _ _ c.if-b-lt65.false,
+    lt-ltb _ _ c.if-b-lt71.true,
+  ),
+  search rules,
+)
 
 pub returns-then-b-lt97 : goal.returns-then-b-lt97
 unfolding digit_of
-returns-then-b-lt97 c = (rw (le-ltb _ _ c.if-b-lt48.false, le-ltb _ _ c.if-b-lt58.false, le-ltb _ _ c.if-b-lt65.false, le-ltb _ _ c.if-b-lt71.false, lt-ltb _ _ c.if-b-lt97.true), search rules)
+returns-then-b-lt97 c = (
+  rw (
+    le-ltb _ _ c.if-b-lt48.false,
+    le-ltb _ _ c.if-b-lt58.false,
+    le-ltb _ _ c.if-b-lt65.false,
+    le-ltb _ _ c.if-b-lt71.false,
+    lt-ltb _ _ c.if-b-lt97.true,
+  ),
+  search rules,
+)
 
 pub returns-then-b-lt103 : goal.returns-then-b-lt103
 unfolding digit_of
-returns-then-b-lt103 c = (rw (le-ltb _ _ c.if-b-lt48.false, le-ltb _ _ c.if-b-lt58.false, le-ltb _ _ c.if-b-lt65.false, le-ltb _ _ c.if-b-lt71.false, le-ltb _ _ c.if-b-lt97.false, lt-ltb _ _ c.if-b-lt103.true), search rules)
+returns-then-b-lt103 c = (
+  rw (
+    le-ltb _ _ c.if-b-lt48.false,
+    le-ltb _ _ c.if-b-lt58.false,
+    le-ltb _ _ c.if-b-lt65.false,
+    le-ltb _ _ c.if-b-lt71.false,
+    le-ltb _ _ c.if-b-lt97.false,
+    lt-ltb _ _ c.if-b-lt103.true,
+  ),
+  search rules,
+)
 
 pub returns : goal.returns
 unfolding digit_of
-returns c = (rw (le-ltb _ _ c.if-b-lt48.false, le-ltb _ _ c.if-b-lt58.false, le-ltb _ _ c.if-b-lt65.false, le-ltb _ _ c.if-b-lt71.false, le-ltb _ _ c.if-b-lt97.false, le-ltb _ _ c.if-b-lt103.false), search rules)
+returns c = (
+  rw (
+    le-ltb _ _ c.if-b-lt48.false,
+    le-ltb _ _ c.if-b-lt58.false,
+    le-ltb _ _ c.if-b-lt65.false,
+    le-ltb _ _ c.if-b-lt71.false,
+    le-ltb _ _ c.if-b-lt97.false,
+    le-ltb _ _ c.if-b-lt103.false,
+  ),
+  search rules,
+)

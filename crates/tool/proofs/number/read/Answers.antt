@@ -18,10 +18,13 @@ returns-then-s-ne48 c = rw (le-ltb _ _ c.if-s-lt2.false, ne_eqb _ _ c.if-s-ne48.
 
 pub returns-then-s-ne120 : goal.returns-then-s-ne120
 unfolding number_of
-returns-then-s-ne120 c = rw (le-ltb _ _ c.if-s-lt2.false, eq-eqb _ _ c.if-s-ne48.false, ne_eqb _ _ c.if-s-ne120.true) c.read_in-then-s-ne120.ensures
+returns-then-s-ne120 c =
+    rw (le-ltb _ _ c.if-s-lt2.false, eq-eqb _ _ c.if-s-ne48.false, ne_eqb _ _ c.if-s-ne120.true)
+    c.read_in-then-s-ne120.ensures
 
 pub returns : goal.returns
 unfolding number_of
 returns c =
     let s = c.args.s.now in
-    rw (le-ltb _ _ c.if-s-lt2.false, eq-eqb _ _ c.if-s-ne48.false, eq-eqb _ _ c.if-s-ne120.false) (c.read_in-2.ensures ∙ ap (number_in 16) (take_all (length s - 2) (drop 2 s) (omega (arith, length-drop 2 s))))
+    rw (le-ltb _ _ c.if-s-lt2.false, eq-eqb _ _ c.if-s-ne48.false, eq-eqb _ _ c.if-s-ne120.false)
+    (c.read_in-2.ensures ∙ ap (number_in 16) (take_all (length s - 2) (drop 2 s) (omega (arith, length-drop 2 s))))

@@ -19,7 +19,9 @@ pub returns-then-base-d : goal.returns-then-base-d
 unfolding number_in
 returns-then-base-d c =
     let a = c.args in
-    rw (ne_eqb _ _ c.if-s-eq0.false, ← c.loop-i.invariant.2) (sym (settled_bad a.base c.loop-i.n a.s.now c.loop-i.i c.loop-i-test.true (rw c.digit-d.ensures.0 at c.if-base-d.true)))
+    rw (ne_eqb _ _ c.if-s-eq0.false, ← c.loop-i.invariant.2)
+    (sym
+    (settled_bad a.base c.loop-i.n a.s.now c.loop-i.i c.loop-i-test.true (rw c.digit-d.ensures.0 at c.if-base-d.true)))
 
 pub overflow_mul-n : goal.overflow_mul-n
 overflow_mul-n c =
@@ -35,18 +37,22 @@ pub returns-then-n-ge4294967296 : goal.returns-then-n-ge4294967296
 unfolding number_in
 returns-then-n-ge4294967296 c =
     let a = c.args in
-    rw (ne_eqb _ _ c.if-s-eq0.false, ← c.loop-i.invariant.2) (sym (settled_large a.base c.loop-i.n a.s.now c.loop-i.i c.loop-i-test.true (omega arith) (rw c.digit-d.ensures.0 at c.if-n-ge4294967296.true)))
+    rw (ne_eqb _ _ c.if-s-eq0.false, ← c.loop-i.invariant.2)
+    (sym (settled_large a.base c.loop-i.n a.s.now c.loop-i.i c.loop-i-test.true (omega arith)
+    (rw c.digit-d.ensures.0 at c.if-n-ge4294967296.true)))
 
 pub loop-i-preserved : goal.loop-i-preserved
 loop-i-preserved c =
     let a = c.args in (
       omega arith,
       search rules,
-      rw c.digit-d.ensures.0 (sym (settled_step a.base c.loop-i.n a.s.now c.loop-i.i c.loop-i-test.true (rw c.digit-d.ensures.0 at c.if-base-d.false)) ∙ c.loop-i.invariant.2),
+      rw c.digit-d.ensures.0 (sym (settled_step a.base c.loop-i.n a.s.now c.loop-i.i c.loop-i-test.true
+          (rw c.digit-d.ensures.0 at c.if-base-d.false)) ∙ c.loop-i.invariant.2),
     )
 
 pub returns : goal.returns
 unfolding number_in
 returns c =
     let a = c.args in
-    rw (ne_eqb _ _ c.if-s-eq0.false, ← c.loop-i.invariant.2) (sym (settled-end a.base c.loop-i.n a.s.now c.loop-i.i (omega arith) c.loop-i.invariant.1))
+    rw (ne_eqb _ _ c.if-s-eq0.false, ← c.loop-i.invariant.2)
+    (sym (settled-end a.base c.loop-i.n a.s.now c.loop-i.i (omega arith) c.loop-i.invariant.1))

@@ -11,8 +11,16 @@ pub loop-i-preserved : goal.loop-i-preserved
 loop-i-preserved c =
     let s = c.args.line.now in
     elim c.if-line-i-eq0.branch [
-      | then-line-i-eq0 w ↦ (omega arith, omega arith, omega (arith, c.loop-i.invariant.2, count_zero s c.loop-i.i c.loop-i-test.true w.if-line-i-eq0.true))
-      | else-line-i-eq0 w ↦ (omega arith, omega arith, omega (arith, c.loop-i.invariant.2, count_other s c.loop-i.i c.loop-i-test.true w.if-line-i-eq0.false))
+      | then-line-i-eq0 w ↦ (
+        omega arith,
+        omega arith,
+        omega (arith, c.loop-i.invariant.2, count_zero s c.loop-i.i c.loop-i-test.true w.if-line-i-eq0.true),
+      )
+      | else-line-i-eq0 w ↦ (
+        omega arith,
+        omega arith,
+        omega (arith, c.loop-i.invariant.2, count_other s c.loop-i.i c.loop-i-test.true w.if-line-i-eq0.false),
+      )
     ]
 
 pub returns : goal.returns

@@ -13,8 +13,13 @@ loop-i-init c = (search rules, search rules, refl, refl)
 
 pub loop-i-preserved : goal.loop-i-preserved
 loop-i-preserved c =
-    let s = c.args.typed.now in
-    (omega arith, omega arith, search rules, rw c.put-n.ensures.0 (part_step s c.loop-i.i c.loop-i.before (take c.loop-i.n c.loop-i.out) c.loop-i-test.true ∙ c.loop-i.invariant.3))
+    let s = c.args.typed.now in (
+      omega arith,
+      omega arith,
+      search rules,
+      rw c.put-n.ensures.0 (part_step s c.loop-i.i c.loop-i.before (take c.loop-i.n c.loop-i.out) c.loop-i-test.true
+          ∙ c.loop-i.invariant.3),
+    )
 
 pub returns : goal.returns
 returns c =

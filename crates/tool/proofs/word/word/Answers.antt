@@ -13,14 +13,19 @@ returns-then-z-line c =
     let z = c.find-z.result in
     let n : z - z ≡ 0 = omega arith in
     let q : c.loop-left.left ≡ suc (c.loop-left.left - 1) = omega arith in
-    rw n (sym (word_last c.args.line.now c.loop-left.from z c.find-z.ensures.first (c.loop-left.left - 1) (omega arith)) ∙ (rw q at c.loop-left.invariant.1))
+    rw n (sym (word_last c.args.line.now c.loop-left.from z c.find-z.ensures.first (c.loop-left.left - 1) (omega arith))
+    ∙ (rw q at c.loop-left.invariant.1))
 
 pub loop-left-preserved : goal.loop-left-preserved
 loop-left-preserved c =
-    let q : c.loop-left.left ≡ suc (c.loop-left.left - 1) = omega arith in
-    (omega arith, sym (word_next c.args.line.now c.loop-left.from c.find-z.result c.find-z.ensures.first (c.loop-left.left - 1)) ∙ (rw q at c.loop-left.invariant.1))
+    let q : c.loop-left.left ≡ suc (c.loop-left.left - 1) = omega arith in (
+      omega arith,
+      sym (word_next c.args.line.now c.loop-left.from c.find-z.result c.find-z.ensures.first (c.loop-left.left - 1))
+          ∙ (rw q at c.loop-left.invariant.1),
+    )
 
 pub returns : goal.returns
 returns c =
     let none : c.loop-left.left ≡ 0 = omega arith in
-    word_here c.args.line.now c.loop-left.from c.find-e.result c.find-e.ensures.first ∙ (rw none at c.loop-left.invariant.1)
+    word_here c.args.line.now c.loop-left.from c.find-e.result c.find-e.ensures.first
+    ∙ (rw none at c.loop-left.invariant.1)
