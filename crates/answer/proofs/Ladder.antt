@@ -21,3 +21,5 @@ too_long w E v l h = lt-ltb (data_limit w E) (4 + v) (omega arith)
 
 pub not_long : (w E v : ℕ) → v ≤ E - 2 * w - 12 → 2 * w + 12 ≤ E → ltb (data_limit w E) (4 + v) ≡ false
 not_long w E v l h = le-ltb (data_limit w E) (4 + v) (omega arith)
+
+pub ruleset turned = (few_pages, two_pages, too_long, not_long)

@@ -1,7 +1,8 @@
 -- What an answer shows: its values as a kind, a place, a length and a key.
-use Rattle.std.specs.Prelude.{ℕ, List, [], ◌∷◌}
-use Rattle.rules.specs.declared.{Answer.Answer}
-use Rattle.rules.specs.Answers.{paper}
+use Rattle.std.specs.Prelude.{◌≡◌, ℕ, ◌<◌, List, [], ◌∷◌, Result, MatchResult}
+use Rattle.rules.specs.declared.{Geo.Geo, Answer.Answer, Answer.TheVariants.Done}
+use Rattle.rules.specs.Answers.{paper, number, refusal}
+use Rattle.rules.specs.Calls.{geo_of}
 use Rattle.answer.specs.declared.Shown.{Shown}
 
 -- no values, place and length of a value, or key, place and length of an item
@@ -13,3 +14,10 @@ shown_by [] = record { kind = 0; place = 0; len = 0; key = 0 }
 
 abbrev pub shown_of : Answer → Shown
 shown_of a = shown_by (paper a).values
+
+-- what the sizes give: their geometry where no refusal is due, else the first that is
+abbrev pub GeometryOk : ℕ → ℕ → ℕ → ℕ → ℕ → Result Geo Answer → Type 0
+GeometryOk w E len m v r =
+    MatchResult r
+    (λ g. (refusal w E len m v ≡ Done) × (g ≡ geo_of w E len))
+    (λ no. (no ≡ refusal w E len m v) × (0 < number no))

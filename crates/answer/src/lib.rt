@@ -1,14 +1,15 @@
 // The answers' numbers and what they show, and the refusals that come before a call.
 #![tactic(auto)]
 
-ghost use Rattle.std.specs.Prelude.{◌≡◌, ◌≤◌, ◌<◌};
-ghost use Rattle.rules.specs.Answers.{number, is_no, refusal};
-ghost use Rattle.rules.specs.Calls.{geo_of};
-ghost use Rattle.answer.specs.Code.{shown_of};
+ghost use Rattle.std.specs.Prelude.{◌≡◌, ◌≤◌, ◌%◌, IfOk, OnOk};
+ghost use Rattle.rules.specs.Answers.{number};
+ghost use Rattle.rules.specs.Held.{Held};
+ghost use Rattle.answer.specs.Code.{shown_of, GeometryOk};
 
 use rules::{Answer, Geo};
 
 // What an answer shows: its kind (0 nothing, 1 a value or an item), place, length and key.
+// The kind is a number and what is not shown is 0: C and the lists of calls read these as words.
 #[derive(Clone, Copy)]
 pub struct Shown {
     pub kind: u32,
@@ -22,10 +23,7 @@ pub fn number(a: Answer) -> u32
     ensures { result ≡ number a }
 {
     match a {
-        Answer::Done => 0,
-        Answer::Value(_, _) => 0,
-        Answer::None => 0,
-        Answer::Item(_, _, _) => 0,
+        Answer::Done | Answer::Value(..) | Answer::None | Answer::Item(..) => 0,
         Answer::EndRangeNotAtPageBoundary => 1,
         Answer::RangeTooSmall => 2,
         Answer::PagesTooSmall => 3,
@@ -37,94 +35,59 @@ pub fn number(a: Answer) -> u32
     }
 }
 
-// Whether the answer has this number.
-pub fn is(a: Answer, no: u32) -> bool
-    ensures { result ≡ is_no no a }
-{
-    number(a) == no
-}
-
 // What an answer shows.
 pub fn show(a: Answer) -> Shown
     ensures { result ≡ shown_of a }
 {
-    let nothing = Shown {
-        kind: 0,
-        place: 0,
-        len: 0,
-        key: 0,
+    let (kind, key, place, len) = match a {
+        Answer::Value(place, len) => (1, 0, place, len),
+        Answer::Item(key, place, len) => (1, key, place, len),
+        _ => (0, 0, 0, 0),
     };
-    match a {
-        Answer::Done => nothing,
-        Answer::Value(place, len) => Shown {
-            kind: 1,
-            place,
-            len,
-            key: 0,
-        },
-        Answer::None => nothing,
-        Answer::Item(key, place, len) => Shown {
-            kind: 1,
-            place,
-            len,
-            key,
-        },
-        Answer::EndRangeNotAtPageBoundary => nothing,
-        Answer::RangeTooSmall => nothing,
-        Answer::PagesTooSmall => nothing,
-        Answer::Geometry => nothing,
-        Answer::CacheSize => nothing,
-        Answer::ItemTooBig => nothing,
-        Answer::FullStorage => nothing,
-        Answer::Corrupted => nothing,
+    Shown {
+        kind,
+        place,
+        len,
+        key,
     }
 }
 
-// The first refusal that is due, Done where none is. A call without a cache or a value has 0 there.
-pub fn refusal(word: usize, page: usize, image_len: usize, size: usize, value_len: usize) -> Answer
+// The geometry that the sizes give, or the first refusal that is due. A call without a cache or a value has 0 there.
+#[tactic(auto, using(crate::proofs::Ladder::turned), unfolding(rules::specs::Answers::refusal))]
+pub fn geometry(
+    word: usize,
+    page: usize,
+    image_len: usize,
+    size: usize,
+    value_len: usize,
+) -> Result<Geo, Answer>
     requires { (4 ≤ word) × (word ≤ 8) }
-    ensures { result ≡ refusal word page image_len size value_len }
+    ensures is { GeometryOk word page image_len size value_len result }
+    ensures held { word % 4 ≡ 0 → IfOk result (λ g. Held g image_len) }
+    ensures fits { OnOk result ((size ≤ 32) × (value_len ≤ 32768)) }
 {
     if page == 0 {
-        return Answer::PagesTooSmall;
+        return Err(Answer::PagesTooSmall);
     }
     let pages = image_len / page;
-    let least = 3 * word + 8;
+    let least = 3 * word + 8; // a page that holds one item
     if image_len % page != 0 {
-        return Answer::EndRangeNotAtPageBoundary;
+        return Err(Answer::EndRangeNotAtPageBoundary);
     }
     if pages < 2 {
-        return Answer::RangeTooSmall;
+        return Err(Answer::RangeTooSmall);
     }
     if page < least {
-        return Answer::PagesTooSmall; // no room for an item
+        return Err(Answer::PagesTooSmall);
     }
-    if page % word != 0 {
-        return Answer::Geometry;
+    if page % word != 0 || page > 32768 || pages > 256 {
+        return Err(Answer::Geometry);
     }
-    if 32768 < page {
-        return Answer::Geometry;
-    }
-    if 256 < pages {
-        return Answer::Geometry;
-    }
-    if 32 < size {
-        return Answer::CacheSize;
+    if size > 32 {
+        return Err(Answer::CacheSize);
     }
     if page - 2 * word - 12 < value_len {
-        return Answer::ItemTooBig;
+        return Err(Answer::ItemTooBig);
     }
-    Answer::Done
-}
-
-// The geometry of an image.
-pub fn geometry(word: usize, page: usize, image_len: usize) -> Geo
-    requires { 0 < page }
-    ensures { result ≡ geo_of word page image_len }
-{
-    Geo {
-        word,
-        page,
-        pages: image_len / page,
-    }
+    Ok(Geo { word, page, pages })
 }

@@ -1,10 +1,12 @@
 -- A list without its element j.
 use mathlib.Core.Path.{◌≡◌, refl, ap}
-use Prim.Native.Nat.{ℕ, zero, suc, ◌-◌, ◌≤◌, ◌<◌}
+use Prim.Native.Nat.{ℕ, zero, suc, ◌+◌, ◌-◌, ◌≤◌, ◌<◌}
 use native.Mathlib.Omega.{arith}
 use mathlib.Core.List.{List, [], ◌∷◌, ◌++◌}
-use lib.ListN.{length, take, drop, length-append, length-drop}
-use lib.Seq.{length-take-le, take-nil, drop-nil}
+use lib.ListN.{length, take, drop, set, get_or, length-append, length-drop}
+use lib.Seq.{length-take-le, take-nil, drop-nil, paste, set_at, drop-cons}
+use Rattle.std.proofs.Common.{add-one}
+use Rattle.std.proofs.Math.Seq.{take-append-add}
 
 module _ {A : Type 0} where
   abbrev pub cut : List A → ℕ → List A
@@ -27,3 +29,19 @@ module _ {A : Type 0} where
   drop-cut l (suc j) zero h = absurd (omega arith)
   drop-cut [] (suc j) (suc m) h = refl
   drop-cut (x ∷ l) (suc j) (suc m) h = drop-cut l j m (omega arith)
+
+-- the elements after the one at j moved over it, and x over the last of the first n
+pub pulled : (a : List ℕ) (j n x : ℕ) → j < n → n ≤ length a
+    → set (paste a j (drop (j + 1) a) (n - (j + 1))) (n - 1) x ≡ take (n - 1) (cut a j) ++ (x ∷ drop n a)
+pulled a j n x h g =
+    let m = n - suc j in
+    let first : length (take j a) ≡ j = length-take-le j a (omega arith) in
+    let last : j + (n - (j + 1)) ≡ n - 1 = omega arith in
+    let all : suc (n - 1) ≡ n = omega arith in
+    let seam : n - 1 ≡ length (take j a) + m = omega arith in
+    let front : take (n - 1) (cut a j) ≡ take j a ++ take m (drop (suc j) a) =
+    rw seam (take-append-add (take j a) (drop (suc j) a) m) in
+    let long : length (take (n - 1) (cut a j)) ≡ n - 1 =
+    length-take-le (n - 1) (cut a j) (omega (arith, length_cut a j (omega arith))) in
+    rw (last, drop-cons a (n - 1) 0 (omega arith), all, add-one, ← front)
+    (set_at (take (n - 1) (cut a j)) (get_or a (n - 1) 0) (drop n a) x (n - 1) long)

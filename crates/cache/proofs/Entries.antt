@@ -1,16 +1,13 @@
 -- The entries of two lists, and entries with a key.
 use mathlib.Core.Path.{◌≡◌, refl, ap}
-use mathlib.Core.Logic.{◌≢◌, ◌⊎◌, ⊎_elim}
 use Prim.Native.Nat.{ℕ, zero, suc, ◌≤◌, ◌<◌}
 use native.Mathlib.Omega.{arith}
 use mathlib.Core.Bool.{Bool, true, false, not}
 use mathlib.Core.List.{List, [], ◌∷◌, ◌++◌, drop_last}
 use lib.ListN.{length, get_or, take, replicate}
 use lib.Dec.{eqb}
-use borrow.Author.Tests.{eq-eqb, ne_eqb}
 use Rattle.rules.specs.Bytes.{pick, both}
 use Rattle.rules.specs.Cache.{Pointer, empty_pointer, is_for, lookup, without, others, note, clear}
-use Rattle.laws.specs.Lists.{both_false_r}
 use Rattle.cache.specs.Code.{entries, index}
 use Rattle.cache.proofs.Cut.{cut}
 
@@ -73,12 +70,6 @@ last_is (e ∷ x ∷ es) zero h = absurd (omega arith)
 last_is (e ∷ x ∷ es) (suc m) h = ap (λ (r : List Pointer). e ∷ r) (last_is (x ∷ es) m (omega arith))
 
 -- ---- the first entry with a key
-
-pub fit : (k : ℕ) (e : Pointer) → e.key ≡ k → e.place ≢ 0 → is_for k e ≡ true
-fit k e h g = rw (eq-eqb e.key k h, ne_eqb e.place 0 g)
-
-pub unfit : (k : ℕ) (e : Pointer) → (e.key ≢ k) ⊎ (e.place ≡ 0) → is_for k e ≡ false
-unfit k e w = ⊎_elim (λ h. rw (ne_eqb e.key k h, both_false_r)) (λ h. rw (eq-eqb e.place 0 h)) w
 
 in_use : (a b : Bool) → both (not a) b ≡ true → a ≡ false
 in_use true b h = let z : ◌≡◌ {A = ℕ} 0 1 = cc in absurd (omega arith)

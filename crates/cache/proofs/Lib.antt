@@ -1,9 +1,9 @@
--- lists and loops over an array
+-- lists
 pub mod Cut
-pub mod Loops
 -- the entries that two arrays are
 pub mod Entries
 pub mod Pointers
+pub mod Seek
 pub mod Changes
 -- all 32 entries, by the entries in use and those that stay
 pub mod Whole

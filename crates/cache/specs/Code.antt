@@ -4,10 +4,6 @@ use Rattle.rules.specs.Bytes.{pick}
 use Rattle.rules.specs.Cache.{Pointer, is_for, note}
 use Rattle.cache.specs.declared.Cache.{Cache}
 
--- the cache of two arrays
-abbrev pub arrays : List ℕ → List ℕ → Cache
-arrays ks ps = record { keys = ks; places = ps }
-
 -- the entries of two lists, a key and a place at a time
 abbrev pub entries : List ℕ → List ℕ → List Pointer
 entries [] ps = []

@@ -1,6 +1,6 @@
 -- What the code's jobs and answers stand for.
-use Rattle.std.specs.Prelude.{ℕ, ◌+◌, ◌-◌, List}
-use Rattle.rules.specs.declared.{Geo.Geo, Answer.Answer, Answer.TheVariants.Value, Answer.TheVariants.None}
+use Rattle.std.specs.Prelude.{◌+◌, ◌-◌, List, ℕ, Option, None, Some, Result, Ok, Err}
+use Rattle.rules.specs.declared.{Geo.Geo, Answer.Answer, Answer.TheVariants.Value, Answer.TheVariants.None as AnswerNone}
 use Rattle.rules.specs.declared.{Answer.TheVariants.Corrupted}
 use Rattle.rules.specs.Cache.{Cache}
 use Rattle.rules.specs.Runs.{St, Out}
@@ -8,19 +8,16 @@ use Rattle.rules.specs.Fetch.{Found, missing, run_fetch, served_by}
 use Rattle.rules.specs.Store.{turns, fetch, store}
 use Rattle.rules.specs.Remove.{run_remove, remove}
 use Rattle.rules.specs.Walk.{run_start, walk_start}
-use Rattle.items.specs.declared.{Spot.Spot, Spot.TheVariants.Corrupt, Spot.TheVariants.Missing, Spot.TheVariants.At}
-use Rattle.fetch.specs.declared.{Mem.Mem}
-use Rattle.store.specs.declared.{Run.Run}
-use Rattle.store.specs.Code.{RunOk}
+use Rattle.items.specs.declared.{Spot.Spot, Corrupt.Corrupt}
 use Rattle.remove.specs.Code.{which_of}
 use Rattle.calls.specs.declared.{Job.Job, Job.TheVariants.Fetch, Job.TheVariants.Store, Job.TheVariants.Remove}
 use Rattle.calls.specs.declared.{Job.TheVariants.Start}
 
 -- the answer that the place and data length of an item give
-abbrev pub told_answer : Spot → Answer
-told_answer Corrupt = Corrupted
-told_answer Missing = None
-told_answer (At p l) = Value (p + 12) (l - 4)
+abbrev pub told_answer : Result (Option Spot) Corrupt → Answer
+told_answer (Err e) = Corrupted
+told_answer (Ok None) = AnswerNone
+told_answer (Ok (Some s)) = Value (s.at + 12) (s.len - 4)
 
 -- a job's run; v is a store's value
 abbrev pub run_of : Geo → Job → List ℕ → St → Out
@@ -42,7 +39,3 @@ call_of G (Fetch k) v = fetch G k
 call_of G (Store k) v = store G k v
 call_of G (Remove t) v = remove G (which_of t)
 call_of G Start v = walk_start G
-
--- a run that changes no byte, with any power
-pub record StillOk (G : Geo) (n : ℕ) (f : St → Out) (img : List ℕ) (mem : Mem) (r : Run) : Type 0 where
-  pub run : (p : ℕ) → RunOk G n 0 f img p img p mem r

@@ -1,27 +1,25 @@
 // The calls behind their refusals: each looks at all page states, and repairs once where it must.
 #![tactic(auto)]
 
-ghost use Rattle.std.specs.Prelude.{◌≡◌, ◌+◌, ◌^◌, ◌≤◌, ◌<◌, length};
-ghost use Rattle.rules.specs.Held.{Held};
+ghost use Rattle.std.specs.Prelude.{◌≡◌, ◌+◌, ◌-◌, ◌^◌, ◌≤◌, ◌<◌, Ok, Some, IfOk, length};
+ghost use Rattle.rules.specs.declared.{Answer.TheVariants.Value};
 ghost use Rattle.rules.specs.Fetch.{run_fetch, plain_fetch};
+ghost use Rattle.rules.specs.Walk.{run_start};
 ghost use Rattle.rules.specs.Store.{looked, auto_repair};
 ghost use Rattle.items.specs.Code.{told, SpotIn};
 ghost use Rattle.cache.specs.Code.{pointers};
-ghost use Rattle.search.specs.Code.{spot_of};
-ghost use Rattle.store.specs.Code.{RunOk};
+ghost use Rattle.fetch.specs.Code.{RunOk};
 ghost use Rattle.mend.specs.Code.{again_of};
-ghost use Rattle.calls.specs.Code.{StillOk, told_answer, run_of, served_of, call_of};
+ghost use Rattle.calls.specs.Code.{told_answer, run_of, served_of, call_of};
 
-use cache::Cache;
-use fetch::Mem;
-use items::Spot;
+use fetch::storage::Storage;
+use items::{Corrupt, Spot};
 use remove::Which;
-use rules::{Answer, Geo};
-use search::Cached;
-use store::Run;
+use ring::Pages;
+use rules::Answer;
 
 // What a call runs behind its look at all page states. A store's value is lent beside it.
-#[derive(Clone, Copy)]
+#[derive(Clone, Copy, PartialEq, Eq)]
 pub enum Job {
     Fetch(u32),
     Store(u32),
@@ -29,172 +27,128 @@ pub enum Job {
     Start,
 }
 
-// What a search found, as an answer: the value's place and length.
-fn answer_of(spot: Spot, len: usize) -> Answer
-    requires { SpotIn len spot × (len < 2 ^ 32) }
-    ensures { result ≡ told_answer spot }
+// An item's value, as an answer: its place and length.
+fn value_of(spot: Spot) -> Answer
+    requires { SpotIn (2 ^ 32) (Some spot) }
+    ensures { result ≡ Value (spot.at + 12) (spot.len - 4) }
 {
-    match spot {
-        Spot::Corrupt => Answer::Corrupted,
-        Spot::Missing => Answer::None,
-        Spot::At(p, l) => Answer::Value(p + 12, l - 4),
+    Answer::Value(spot.at + 12, spot.len - 4)
+}
+
+// What a search found, as an answer.
+fn answer_of(found: Result<Option<Spot>, Corrupt>) -> Answer
+    requires { IfOk found (SpotIn (2 ^ 32)) }
+    ensures { result ≡ told_answer found }
+{
+    match found {
+        Ok(Some(spot)) => value_of(spot),
+        Ok(None) => Answer::None,
+        Err(Corrupt) => Answer::Corrupted,
     }
 }
 
 // A fetch with the cache.
-fn run_fetch(img: &[u8], g: Geo, mem: Mem, slots: usize, key: u32) -> Run
-    requires { Held g (length img.now) × (slots ≤ 32) }
-    ensures { StillOk g slots (run_fetch g key) img.now mem result }
+fn run_fetch(storage: &mut Storage<'_, '_>, key: u32) -> Answer
+    ensures { RunOk 0 (run_fetch storage.old.flash.now.geo key) storage.old storage.new result }
 {
-    let f = fetch::fetch_in(img, g, mem, slots, key);
-    let m = f.mem;
-    let spot = f.spot;
-    Run {
-        mem: m,
-        answer: answer_of(spot, img.len()),
+    answer_of(storage.fetch(key))
+}
+
+// A walk's start needs a first page.
+fn run_start(storage: &Storage<'_, '_>) -> Answer
+    ensures { RunOk 0 (run_start storage.now.flash.now.geo) storage.now storage.now result }
+{
+    match walk::walk_first(&storage.flash.pages()) {
+        Some(_) => Answer::Done,
+        None => Answer::Corrupted,
     }
 }
 
-// A job's run. A walk's start needs a first page.
-fn run(img: &mut [u8], g: Geo, mem: Mem, slots: usize, job: Job, v: &[u8], power: &mut usize) -> Run
-    requires { Held g (length img.old) × (slots ≤ 32) × (length v.now ≤ 32768) × (mem.erased < 2 ^ 31) }
-    ensures { RunOk g slots g.pages (run_of g job v.now) img.old power.old img.new power.new mem result }
+// A job's run.
+fn run(storage: &mut Storage<'_, '_>, job: Job, value: &[u8]) -> Answer
+    requires { (length value.now ≤ 32768) × (storage.old.erased < 2 ^ 31) }
+    ensures { RunOk storage.old.flash.now.geo.pages (run_of storage.old.flash.now.geo job value.now)
+        storage.old storage.new result }
 {
     match job {
-        Job::Fetch(key) => run_fetch(img, g, mem, slots, key),
-        Job::Store(key) => store::turns(img, g, mem, slots, key, v, power),
-        Job::Remove(which) => remove::run_remove(img, g, mem, slots, which, power),
-        Job::Start => {
-            if walk::walk_first(img, g) < g.pages {
-                return Run {
-                    mem,
-                    answer: Answer::Done,
-                };
-            }
-            Run {
-                mem,
-                answer: Answer::Corrupted,
-            }
-        }
+        Job::Fetch(key) => run_fetch(storage, key),
+        Job::Store(key) => store::turns(storage, key, value),
+        Job::Remove(which) => remove::run_remove(storage, which),
+        Job::Start => run_start(storage),
     }
 }
 
 // The run after the look at all page states.
-fn look_and_run(
-    img: &mut [u8],
-    g: Geo,
-    mem: Mem,
-    slots: usize,
-    job: Job,
-    v: &[u8],
-    power: &mut usize,
-) -> Run
-    requires { Held g (length img.old) × (slots ≤ 32) × (length v.now ≤ 32768) × (mem.erased < 2 ^ 31) }
-    ensures { RunOk g slots g.pages (looked g (run_of g job v.now)) img.old power.old img.new power.new mem result }
+fn look_and_run(storage: &mut Storage<'_, '_>, job: Job, value: &[u8]) -> Answer
+    requires { (length value.now ≤ 32768) × (storage.old.erased < 2 ^ 31) }
+    ensures { RunOk storage.old.flash.now.geo.pages
+        (looked storage.old.flash.now.geo (run_of storage.old.flash.now.geo job value.now)) storage.old storage.new result }
 {
-    if ring::any_corrupted(img, g) {
-        return Run {
-            mem,
-            answer: Answer::Corrupted,
-        };
+    if storage.flash.pages().any_corrupted() {
+        return Answer::Corrupted;
     }
-    run(img, g, mem, slots, job, v, power)
+    run(storage, job, value)
 }
 
 // The repair, and the run after it.
-fn again(
-    img: &mut [u8],
-    g: Geo,
-    mem: Mem,
-    slots: usize,
-    job: Job,
-    v: &[u8],
-    power: &mut usize,
-) -> Run
-    requires { Held g (length img.old) × (slots ≤ 32) × (length v.now ≤ 32768) × (mem.erased < 2 ^ 30) }
-    ensures { RunOk g slots (g.pages + 2 + g.pages) (again_of g (run_of g job v.now)) img.old power.old img.new power.new mem result }
+fn again(storage: &mut Storage<'_, '_>, job: Job, value: &[u8]) -> Answer
+    requires { (length value.now ≤ 32768) × (storage.old.erased < 2 ^ 30) }
+    ensures { RunOk (storage.old.flash.now.geo.pages + 2 + storage.old.flash.now.geo.pages)
+        (again_of storage.old.flash.now.geo (run_of storage.old.flash.now.geo job value.now)) storage.old storage.new result }
 {
-    let r = mend::try_repair(img, g, mem, slots, power);
-    let a = r.answer;
-    if answer::is(a, 0) {
-        let m = r.mem;
-        let second = look_and_run(img, g, m, slots, job, v, power);
-        return mend::settle(second, slots);
+    if mend::try_repair(storage).is_err() {
+        mend::settle(storage, Answer::Corrupted);
+        return Answer::Corrupted;
     }
-    mend::settle(r, slots)
+    let answer = look_and_run(storage, job, value);
+    mend::settle(storage, answer);
+    answer
 }
 
 // A job that repairs once on Corrupted and runs again.
-fn auto_repair(
-    img: &mut [u8],
-    g: Geo,
-    mem: Mem,
-    slots: usize,
-    job: Job,
-    v: &[u8],
-    power: &mut usize,
-) -> Run
-    requires { Held g (length img.old) × (slots ≤ 32) × (length v.now ≤ 32768) × (mem.erased < 2 ^ 20) }
-    ensures { RunOk g slots (g.pages + (g.pages + 2 + g.pages)) (auto_repair g (run_of g job v.now)) img.old power.old img.new power.new mem result }
+fn auto_repair(storage: &mut Storage<'_, '_>, job: Job, value: &[u8]) -> Answer
+    requires { (length value.now ≤ 32768) × (storage.old.erased < 2 ^ 20) }
+    ensures { RunOk (storage.old.flash.now.geo.pages + (storage.old.flash.now.geo.pages + 2 + storage.old.flash.now.geo.pages))
+        (auto_repair storage.old.flash.now.geo (run_of storage.old.flash.now.geo job value.now)) storage.old storage.new result }
 {
-    let first = look_and_run(img, g, mem, slots, job, v, power);
-    let a = first.answer;
-    if answer::is(a, 8) {
-        let m = first.mem;
-        return again(img, g, m, slots, job, v, power);
+    match look_and_run(storage, job, value) {
+        Answer::Corrupted => again(storage, job, value),
+        answer => answer,
     }
-    first
 }
 
 // What the cache alone finds: a fetch's key.
-fn served_by(img: &[u8], g: Geo, cache: Cache, slots: usize, job: Job) -> Cached
-    requires { Held g (length img.now) × (slots ≤ 32) }
-    ensures { (spot_of result ≡ told (served_of g job img.now (pointers slots cache))) × SpotIn (length img.now) (spot_of result) }
+fn served_by(storage: &Storage<'_, '_>, job: Job) -> Option<Spot>
+    ensures { (Ok result ≡ told (served_of storage.now.flash.now.geo job storage.now.flash.now.img.now
+        (pointers storage.now.slots.count storage.now.cache))) × SpotIn (length storage.now.flash.now.img.now) result }
 {
-    match job {
-        Job::Fetch(key) => {
-            let a = cache::find(cache, slots, key);
-            if a == 0 {
-                return Cached::Nothing;
-            }
-            search::hit(img, g, key, a as usize)
-        }
-        Job::Store(_) => Cached::Nothing,
-        Job::Remove(_) => Cached::Nothing,
-        Job::Start => Cached::Nothing,
-    }
+    let Job::Fetch(key) = job else {
+        return None;
+    };
+    let place = storage.cache.find(storage.slots.count, key)?;
+    search::hit(&storage.flash.pages(), key, place as usize)
 }
 
 // A call: a fetch that a cache hit serves answers at once, without a look at the page states.
-pub fn call(
-    img: &mut [u8],
-    g: Geo,
-    mem: Mem,
-    slots: usize,
-    job: Job,
-    v: &[u8],
-    power: &mut usize,
-) -> Run
-    requires { Held g (length img.old) × (slots ≤ 32) × (length v.now ≤ 32768) × (mem.erased < 2 ^ 20) }
-    ensures { RunOk g slots (g.pages + (g.pages + 2 + g.pages)) (call_of g job v.now) img.old power.old img.new power.new mem result }
+pub fn call(storage: &mut Storage<'_, '_>, job: Job, value: &[u8]) -> Answer
+    requires { (length value.now ≤ 32768) × (storage.old.erased < 2 ^ 20) }
+    ensures same_flash { storage.new.flash.ghost_name ≡ storage.old.flash.ghost_name }
+    ensures same_image { storage.new.flash.now.img.ghost_name ≡ storage.old.flash.now.img.ghost_name }
+    ensures run { RunOk (storage.old.flash.now.geo.pages + (storage.old.flash.now.geo.pages + 2 + storage.old.flash.now.geo.pages))
+        (call_of storage.old.flash.now.geo job value.now) storage.old storage.new result }
 {
-    let c = mem.cache;
-    let Cached::At(p, l) = served_by(img, g, c, slots, job) else {
-        return auto_repair(img, g, mem, slots, job, v, power);
-    };
-    Run {
-        mem,
-        answer: Answer::Value(p + 12, l - 4),
+    match served_by(storage, job) {
+        Some(spot) => value_of(spot),
+        None => auto_repair(storage, job, value),
     }
 }
 
 // A plain read-only fetch: no cache, and Corrupted at once.
-pub fn plain_fetch(img: &[u8], g: Geo, key: u32) -> Answer
-    requires { Held g (length img.now) }
-    ensures { result ≡ plain_fetch g img.now key }
+pub fn plain_fetch(pages: &Pages<'_>, key: u32) -> Answer
+    ensures { result ≡ plain_fetch pages.now.geo pages.now.img.now key }
 {
-    if ring::any_corrupted(img, g) {
+    if pages.any_corrupted() {
         return Answer::Corrupted;
     }
-    answer_of(search::newest(img, g, key), img.len())
+    answer_of(search::newest(pages, key))
 }

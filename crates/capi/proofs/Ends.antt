@@ -1,5 +1,5 @@
 -- What a call at the border leaves: 255 and nothing changed, or what the call told.
-use mathlib.Core.Path.{◌≡◌, refl, sym, ap, ◌∙◌, subst}
+use mathlib.Core.Path.{◌≡◌, refl, sym, ap, ◌∙◌}
 use mathlib.Core.Logic.{◌≢◌}
 use Prim.Native.Nat.{ℕ}
 use mathlib.Core.Bool.{Bool, true, false}
@@ -7,21 +7,19 @@ use mathlib.Core.List.{List, [], ◌∷◌}
 use lib.ListN.{length, get_or, set}
 use lib.Dec.{eqb}
 use native.Mathlib.Omega.{arith}
-use borrow.Author.Tests.{ne_eqb, eq-eqb, eqb-true}
-use Rattle.rules.specs.declared.{Cursor.Cursor, Answer.Answer, Answer.TheVariants.Corrupted}
-use Rattle.rules.specs.Bytes.{both, FlashStep}
+use borrow.Author.Tests.{ne_eqb, eq-eqb}
+use Rattle.laws.specs.Lists.{both_false_r}
+use Rattle.rules.specs.declared.{Cursor.Cursor, Answer.Answer}
+use Rattle.rules.specs.Bytes.{FlashStep}
 use Rattle.rules.specs.Power.{lasts, spend, units, cut_image}
 use Rattle.rules.specs.Cache.{Cache as Entries}
 use Rattle.rules.specs.Answers.{number}
-use Rattle.rules.specs.Calls.{Call, Lent, Told as Handed, called, fetch_all_items, steps_of}
-use Rattle.answer.specs.declared.{Shown.Shown}
-use Rattle.answer.specs.Code.{shown_of}
+use Rattle.rules.specs.Calls.{Call, Lent, called, fetch_all_items, steps_of}
 use Rattle.cache.specs.declared.{Cache.Cache}
 use Rattle.cache.specs.Code.{pointers}
 use Rattle.map.specs.declared.{Told.Told, Started.Started, Stepped.Stepped}
 use Rattle.map.specs.Code.{lent_of, told_of, CutOk, started_of, PlainOk, StepOk}
-use Rattle.capi.specs.declared.{Change.Change}
-use Rattle.capi.specs.Code.{Word, Fits, WordsOk, cut_lengths, CutBorder, change_call, entries_of, cache_words, cursor_of}
+use Rattle.capi.specs.Code.{WordsOk, cut_lengths, CutBorder, entries_of, cache_words, cursor_of}
 use Rattle.capi.specs.Code.{cursor_after, out_words, border, plain_border, start_border, step_border}
 use Rattle.capi.proofs.Small.{told-fits}
 
@@ -47,23 +45,6 @@ module _ (E m : ℕ) (call : Call) (img ws ow : List ℕ) where
 
 -- ---- a call that is lent power
 
--- what fits is told as it is; where a number doesn't fit, the answer is one that does
-pub words_yes : (t : Told) (s : Shown) → s ≡ shown_of t.answer → Word t.erased → Word s.place → Word s.len
-    → WordsOk t (record { answer = t.answer; cache = t.cache; erased = t.erased })
-words_yes t s e f g h = record { fits = (f, rw e at g, rw e at h); same = λ k. refl }
-
-pub words_no : (t : Told) (s : Shown) → s ≡ shown_of t.answer
-    → (Word t.erased × Word s.place × Word s.len → ⊥)
-    → WordsOk t (record { answer = Corrupted; cache = t.cache; erased = 0 })
-words_no t s e n =
-    let no : Fits t.erased t.answer → ⊥ = rw e at n in
-    record { fits = (omega arith, omega arith, omega arith); same = λ k. absurd (no k) }
-
--- the change that a call is
-pub as_change : (E m : ℕ) (job : Change) (v : List ℕ) (l : Lent) (p p' : ℕ) (t : Handed) (j : Change) → j ≡ job
-    → CutOk E m (change_call job v) l p p' t → CutOk E m (change_call j v) l p p' t
-as_change E m job v l p p' t j e o = subst (λ (x : Change). CutOk E m (change_call x v) l p p' t) (sym e) o
-
 not_both : ◌≡◌ {A = Bool} false true → ⊥
 not_both q = let z : ◌≡◌ {A = ℕ} 0 1 = cc in absurd (omega arith)
 
@@ -73,15 +54,22 @@ pub record Lengths (c p o : ℕ) : Type 0 where
   pub power : p ≡ 1
   pub out : o ≡ 5
 
-pub lengths : (c p o : ℕ) → cut_lengths c p o ≡ true → Lengths c p o
+right : (c p o : ℕ) → Lengths c p o → cut_lengths c p o ≡ true
 unfolding cut_lengths
-lengths c p o h = go (eqb c 64) (eqb p 1) (eqb o 5) refl refl refl h
-  where
-    go : (x y z : Bool) → eqb c 64 ≡ x → eqb p 1 ≡ y → eqb o 5 ≡ z → both x (both y z) ≡ true → Lengths c p o
-    go true true true e f g k = record { cache = eqb-true c 64 e; power = eqb-true p 1 f; out = eqb-true o 5 g }
-    go true true false e f g k = absurd (not_both k)
-    go true false z e f g k = absurd (not_both k)
-    go false y z e f g k = absurd (not_both k)
+right c p o L = rw (L.cache, L.power, L.out)
+
+-- and where one is wrong
+pub no_cache_length : (c p o : ℕ) → c ≢ 64 → cut_lengths c p o ≡ false
+unfolding cut_lengths
+no_cache_length c p o h = rw (ne_eqb c 64 h)
+
+pub no_power_length : (c p o : ℕ) → p ≢ 1 → cut_lengths c p o ≡ false
+unfolding cut_lengths
+no_power_length c p o h = rw (ne_eqb p 1 h) (both_false_r (eqb c 64))
+
+pub no_out_length : (c p o : ℕ) → o ≢ 5 → cut_lengths c p o ≡ false
+unfolding cut_lengths
+no_out_length c p o h = rw (ne_eqb o 5 h, both_false_r (eqb p 1)) (both_false_r (eqb c 64))
 
 one_set : (l : List ℕ) (x : ℕ) → length l ≡ 1 → set l 0 x ≡ x ∷ []
 one_set [] x h = absurd (omega arith)
@@ -98,15 +86,15 @@ module _ (E m : ℕ) (call : Call) (img ws pw ow : List ℕ) where
     whole = λ k l. absurd (not_both (sym h ∙ k));
   }
 
-  pub cut-told : cut_lengths (length ws) (length pw) (length ow) ≡ true → (held : Cache)
+  pub cut-told : Lengths (length ws) (length pw) (length ow) → (held : Cache)
       → pointers 32 held ≡ entries_of ws
       → (i : List ℕ) (p' : ℕ) (t : Told) → CutOk E m call (lent_of img held) (get_or pw 0 0) p' (told_of i t) → (r : Told)
       → WordsOk t r
       → (n : ℕ) (c o : List ℕ)
       → (n ≡ number r.answer) × (c ≡ cache_words (pointers 32 r.cache)) × (o ≡ out_words r.erased r.answer)
       → CutBorder E m call img ws pw ow (record { no = n; image = i; cache = c; power = set pw 0 p'; out = o })
-  cut-told h held e i p' t C r W n c o f =
-      let L = lengths (length ws) (length pw) (length ow) h in
+  cut-told L held e i p' t C r W n c o f =
+      let h = right (length ws) (length pw) (length ow) L in
       let at : Lent → List FlashStep = λ l. steps_of 4 E m call l in
       let l : lent_of img held ≡ record { image = img; cache = entries_of ws } =
       ap (λ (x : Entries). record { image = img; cache = x }) e in

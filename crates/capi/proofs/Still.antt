@@ -1,37 +1,34 @@
 -- A fetch that changes nothing: refused, served by the lent cache, or without a cache on an image that is not
 -- corrupted.
 use mathlib.Core.Path.{◌≡◌, refl, ap, sym, ◌∙◌}
-use mathlib.Core.Logic.{◌≢◌, ◌⊎◌, ⊎_elim, inl, inr}
+use mathlib.Core.Logic.{◌≢◌}
 use Prim.Native.Nat.{ℕ, ◌+◌, ◌-◌, ◌≤◌, ◌<◌}
 use native.Mathlib.Omega.{arith}
 use mathlib.Core.Bool.{Bool, true, false}
 use mathlib.Core.List.{List, []}
 use lib.ListN.{length, get_or, take, drop, length-drop, take-append-drop}
-use lib.Seq.{length-take-le, take_all, get_or-take, get_or-drop}
+use lib.Seq.{length-take-le, take_all, take-take, get_or-take}
 use borrow.Author.Tests.{ne_eqb, eq-eqb}
-use Rattle.rules.specs.declared.{Geo.Geo, Answer.Answer, Answer.TheVariants.Value, Answer.TheVariants.Corrupted}
+use Rattle.std.proofs.Common.{Option, Some, Result, Ok, Err}
+use Rattle.rules.specs.declared.{Geo.Geo, Answer.Answer, Answer.TheVariants.Done, Answer.TheVariants.Value, Answer.TheVariants.Corrupted}
 use Rattle.rules.specs.Bytes.{pick}
 use Rattle.rules.specs.Cache.{Cache as Entries, lookup, note}
 use Rattle.rules.specs.Answers.{number, is_no, refusal}
-use Rattle.rules.specs.Runs.{out, on}
-use Rattle.rules.specs.Power.{endless}
-use Rattle.laws.specs.Through.{thr_endless}
-use Rattle.rules.specs.Fetch.{Found, corrupt, missing, found, answer_of, note_found, newest, hit, fetch_in, run_fetch}
-use Rattle.rules.specs.Fetch.{plain_fetch}
-use Rattle.rules.specs.Pages.{any_corrupted}
-use Rattle.rules.specs.Store.{looked, auto_repair, fetch}
-use Rattle.rules.specs.Calls.{Told as Handed, Lent, no_cursor, geo_of, behind, called, fetch_item, fetch_plain}
-use Rattle.items.specs.declared.{Spot.TheVariants.At}
+use Rattle.rules.specs.Runs.{St, out, on}
+use Rattle.rules.specs.Fetch.{Found, corrupt, missing, found, hit, served_by, answer_of, note_found, newest, fetch_in, run_fetch, plain_fetch}
+use Rattle.rules.specs.Store.{fetch_by, fetch, looked, auto_repair}
+use Rattle.rules.specs.Calls.{geo_of, behind, called, Told as Handed, Lent, no_cursor, fetch_item, fetch_plain}
+use Rattle.laws.specs.Plain.{FoundPlain, hit-plain}
+use Rattle.items.specs.declared.{Spot.Spot, Corrupt.Corrupt}
 use Rattle.items.specs.Code.{told}
-use Rattle.cache.specs.Code.{pointers, index}
-use Rattle.cache.proofs.Pointers.{Sized, seek_hit, seek_on, seek_end, none, find_hit}
-use Rattle.fetch.specs.declared.{Mem.Mem}
-use Rattle.calls.specs.declared.{Job.TheVariants.Fetch}
-use Rattle.calls.proofs.Laws.{served_hit, call_served}
-use Rattle.map.specs.Code.{answered, PlainOk}
-use Rattle.map.proofs.Laws.{refused, ran}
-use Rattle.capi.specs.Code.{Fits, entries_of, lent_cache, cache_words, out_words, border, StillOk}
+use Rattle.cache.specs.Code.{entries, pointers, index}
+use Rattle.cache.proofs.Entries.{entries-take}
+use Rattle.cache.proofs.Pointers.{Sized, none, held, find_hit}
+use Rattle.cache.proofs.Whole.{take-pointers}
+use Rattle.capi.specs.Code.{entries_of, lent_cache, cache_words, StillOk, Fits, out_words, border}
 use Rattle.capi.proofs.Words.{cache_in, cache_out}
+use Rattle.rules.specs.Pages.{any_corrupted}
+use Rattle.map.specs.Code.{answered, PlainOk}
 use Rattle.capi.proofs.Small.{told-fits}
 
 -- ---- the lent cache
@@ -48,66 +45,72 @@ module _ (ws : List ℕ) (h : length ws ≡ 64) where
       ap cache_words (sym lent_is) ∙ cache_out (lent_cache ws) lk lp
       ∙ rw (take_all 32 (drop 32 ws) (omega arith)) (take-append-drop 32 ws)
 
-  -- ---- the search for a key in its words
+-- ---- the search for a key in its words
 
-  module _ (n : ℕ) (hn : n ≤ 32) where
-    sized : Sized n (lent_cache ws)
-    sized =
-        let ld = length-drop 32 ws in
-        record {
-          within = hn;
-          keys_long = length-take-le 32 ws (omega arith);
-          places_long = length-take-le 32 (drop 32 ws) (omega arith);
-        }
+module _ (ws : List ℕ) (h : length ws ≡ 64) (n : ℕ) (hn : n ≤ 32) (k : ℕ) where
+  sized : Sized n (lent_cache ws)
+  sized =
+      let ld = length-drop 32 ws in
+      record {
+        within = hn;
+        keys_long = length-take-le 32 ws (omega arith);
+        places_long = length-take-le 32 (drop 32 ws) (omega arith);
+      }
 
-    abbrev Sought : ℕ → ℕ → Type 0
-    Sought k i = i + index k (drop i (pointers n (lent_cache ws))) ≡ index k (pointers n (lent_cache ws))
+  first_entries : entries (take n ws) (take n (drop 32 ws)) ≡ pointers n (lent_cache ws)
+  unfolding pointers
+  first_entries =
+      rw (← entries-take n (take 32 ws) (take 32 (drop 32 ws)), take-take n 32 ws hn, take-take n 32 (drop 32 ws) hn)
 
-    module _ (k i : ℕ) (l : i < n) where
-      key_at : get_or (take 32 ws) i 0 ≡ get_or ws i 0
-      key_at = get_or-take 32 ws i 0 (omega arith)
+  long : length (take n ws) ≡ n
+  long = length-take-le n ws (omega arith)
 
-      place_at : get_or (take 32 (drop 32 ws)) i 0 ≡ get_or ws (32 + i) 0
-      place_at = get_or-take 32 (drop 32 ws) i 0 (omega arith) ∙ get_or-drop 32 ws i 0
+  pub find_none : length (take n ws) ≤ index k (entries (take n ws) (take n (drop 32 ws))) → lookup k (pointers n (lent_cache ws)) ≡ 0
+  find_none l =
+      none (lent_cache ws) n sized k (index k (pointers n (lent_cache ws))) refl (rw (first_entries, long) at l)
 
-      pub find_yes : Sought k i → get_or ws i 0 ≡ k → get_or ws (32 + i) 0 ≢ 0
-          → get_or ws (32 + i) 0 ≡ lookup k (pointers n (lent_cache ws))
-      find_yes e hk hp =
-          let f : i + index k (drop i (pointers n (lent_cache ws))) ≡ i =
-          seek_hit (lent_cache ws) n sized k i l (key_at ∙ hk) (λ z. hp (sym place_at ∙ z)) in
-          sym place_at ∙ find_hit (lent_cache ws) n sized k i (sym f ∙ e) l
-
-      pub find_on : Sought k i → (get_or ws i 0 ≢ k) ⊎ (get_or ws (32 + i) 0 ≡ 0) → Sought k (i + 1)
-      find_on e w =
-          sym (seek_on (lent_cache ws) n sized k i l
-          (⊎_elim (λ x. inl (λ z. x (sym key_at ∙ z))) (λ x. inr (place_at ∙ x)) w)) ∙ e
-
-    pub find_no : (k i : ℕ) → Sought k i → n ≤ i → 0 ≡ lookup k (pointers n (lent_cache ws))
-    find_no k i e l = sym (none (lent_cache ws) n sized k i (sym (seek_end (lent_cache ws) n sized k i l) ∙ e) l)
+  pub find_some : (i : ℕ) → (i < length (take n ws)) × (i ≡ index k (entries (take n ws) (take n (drop 32 ws))))
+      → (0 < get_or (take n (drop 32 ws)) i 0) × (get_or (take n (drop 32 ws)) i 0 ≡ lookup k (pointers n (lent_cache ws)))
+  find_some i f =
+      let l : i < n = omega (arith, f.0, long) in
+      let e : i ≡ index k (pointers n (lent_cache ws)) = rw first_entries at f.1 in
+      let same : get_or (take n (drop 32 ws)) i 0 ≡ lookup k (pointers n (lent_cache ws)) =
+      get_or-take n (drop 32 ws) i 0 l ∙ sym (get_or-take 32 (drop 32 ws) i 0 (omega arith))
+      ∙ find_hit (lent_cache ws) n sized k i e l in
+      (rw same (held (lent_cache ws) n sized k i e l), same)
 
 -- ---- refused, or served by the cache
 
-module _ (E m k : ℕ) (img ws : List ℕ) (no : Answer) (d : ℕ) (hno : no ≡ refusal 4 E (length img) m 0)
-    (hd : d ≡ number no) where
-  pub still_refused : d ≢ 0 → StillOk E m k img ws no
-  unfolding called
-  still_refused n =
-      record {
-        is = λ x. refused E m 0 img no d hno hd (λ G s. fetch G k s) (λ G o. no_cursor) no_cursor n (entries_of ws);
-      }
+-- what a search at a cached place tells is the answer
+abbrev told_value : Result (Option Spot) Corrupt → Answer
+told_value (Ok (Some spot)) = Value (spot.at + 12) (spot.len - 4)
+told_value (Ok Rattle.std.proofs.Common.None) = Corrupted
+told_value (Err e) = Corrupted
 
-  pub still_hit : d ≡ 0 → length ws ≡ 64 → (G : Geo) → G ≡ geo_of 4 E (length img) → (a p l : ℕ)
-      → a ≡ lookup k (pointers m (lent_cache ws)) → (a ≡ 0 → ⊥)
-      → At p l ≡ told (hit G img k a) → StillOk E m k img ws (Value (p + 12) (l - 4))
-  unfolding called
-  still_hit z h G g a p l ha n q =
-      let mem : Mem = record { cache = lent_cache ws; erased = 0 } in
-      let s = served_hit G img (pointers m (lent_cache ws)) (Fetch k) k refl a ha (At p l) n q in
-      let R = call_served G m 0 (Fetch k) [] img 18446744073709551615 mem p l s in
-      let e = thr_endless G _ img img endless _ _ R.is in
-      let t = ran E m 0 img no d hno hd (λ G s. fetch G k s) (λ G o. no_cursor) no_cursor z (lent_cache ws) G g img
-      (record { mem = mem; answer = Value (p + 12) (l - 4) }) e R.past no_cursor refl in
-      record { is = λ x. rw (lent_is ws h) at t }
+hit_answer : (x : Found) → FoundPlain x → (spot : Spot) → Ok (Some spot) ≡ told x → (G : Geo) (k : ℕ) (s : St)
+    → out (Value (spot.at + 12) (spot.len - 4)) s ≡ fetch_by G k s x
+hit_answer corrupt h spot q G k s = cc
+hit_answer missing h spot q G k s = cc
+hit_answer (found e) h spot q G k s = rw (h.0, h.1) (ap (λ (x : Result (Option Spot) Corrupt). out (told_value x) s) q)
+
+module _ (E m k : ℕ) (img ws : List ℕ) where
+  pub still_refused : (a : Answer) → (a ≡ refusal 4 E (length img) m 0) × (0 < number a) → StillOk E m k img ws a
+  unfolding called behind
+  still_refused a r = rw (← r.0, ne_eqb (number a) 0 (λ z. absurd (omega (arith, r.1))))
+
+  pub still_hit : (G : Geo) → (refusal 4 E (length img) m 0 ≡ Done) × (G ≡ geo_of 4 E (length img)) → length ws ≡ 64 → m ≤ 32
+      → (a : ℕ) → (0 < a) × (a ≡ lookup k (pointers m (lent_cache ws)))
+      → (spot : Spot) → Ok (Some spot) ≡ told (hit G img k a) → StillOk E m k img ws (Value (spot.at + 12) (spot.len - 4))
+  unfolding called behind fetch
+  still_hit G g h few a f spot q =
+      let s : St = record { img = img; cache = take m (entries_of ws); erased = 0 } in
+      let same : pointers m (lent_cache ws) ≡ take m (entries_of ws) =
+      sym (take-pointers (lent_cache ws) m few) ∙ ap (λ (es : Entries). take m es) (lent_is ws h) in
+      let at : a ≡ lookup k (take m (entries_of ws)) = rw same at f.1 in
+      let by : served_by G k s ≡ hit G img k a = rw (← at, ne_eqb a 0 (λ z. absurd (omega (arith, f.0)))) in
+      let ran : out (Value (spot.at + 12) (spot.len - 4)) s ≡ fetch_by G k s (served_by G k s) =
+      rw by (hit_answer (hit G img k a) (hit-plain G img k a) spot q G k s) in
+      rw (g.0, ← g.1, ← ran, take-append-drop m (entries_of ws))
 
 -- ---- without a cache
 
@@ -150,28 +153,21 @@ module _ (E k : ℕ) (img : List ℕ) (c : Entries) (a : Answer) (P : PlainOk E 
       rw (e, no-entries (geo_of 4 E (length img)) k img f)
   same_call false e = rw e
 
-pub still_plain : (E k : ℕ) (img ws : List ℕ) (a : Answer) → PlainOk E k img a → StillOk E 0 k img ws a
-still_plain E k img ws a P =
-    record {
-      is = λ n. P.is 0 (entries_of ws)
-          ∙ same_call E k img (entries_of ws) a P n (is_no 0 (refusal 4 E (length img) 0 0)) refl;
-    }
+pub still_plain : (E k : ℕ) (img ws : List ℕ) (a : Answer) → PlainOk E k img a → number a ≢ 8 → StillOk E 0 k img ws a
+still_plain E k img ws a P n =
+    P.is 0 (entries_of ws) ∙ same_call E k img (entries_of ws) a P n (is_no 0 (refusal 4 E (length img) 0 0)) refl
 
 -- ---- at the border
 
 -- what it answers fits the words
-pub still_fits : (E m k : ℕ) (img ws : List ℕ) (a : Answer) → StillOk E m k img ws a → (n : ℕ) → n ≡ number a
-    → (n ≡ 8 → ⊥) → Fits 0 a
-still_fits E m k img ws a S n e z =
+pub still_fits : (E m k : ℕ) (img ws : List ℕ) (a : Answer) → StillOk E m k img ws a → Fits 0 a
+still_fits E m k img ws a S =
     let l : Lent = record { image = img; cache = entries_of ws } in
-    told-fits E m (fetch_item k) l (answered a no_cursor l) (S.is (λ q. z (e ∙ q)))
+    told-fits E m (fetch_item k) l (answered a no_cursor l) S
 
-module _ (E m k : ℕ) (img ws ow : List ℕ) where
-  pub still_told : length ws ≡ 64 → length ow ≡ 5 → (a : Answer) → StillOk E m k img ws a → (n : ℕ) → n ≡ number a
-      → (n ≡ 8 → ⊥)
-      → (n' : ℕ) (o : List ℕ) → n' ≡ number a → o ≡ out_words 0 a
-      → record { no = n'; image = img; cache = ws; out = o } ≡ border E m (fetch_item k) img ws ow
-  unfolding border
-  still_told g h a S n e z n' o e' f =
-      let t = S.is (λ q. z (e ∙ q)) in
-      rw (eq-eqb (length ws) 64 g, eq-eqb (length ow) 5 h, ← t, words_back ws g, e', f)
+pub still_told : (E m k : ℕ) (img ws ow : List ℕ) → length ws ≡ 64 → length ow ≡ 5 → (a : Answer)
+    → StillOk E m k img ws a → (n : ℕ) (o : List ℕ) → n ≡ number a → o ≡ out_words 0 a
+    → record { no = n; image = img; cache = ws; out = o } ≡ border E m (fetch_item k) img ws ow
+unfolding border
+still_told E m k img ws ow g h a S n o e f =
+    rw (eq-eqb (length ws) 64 g, eq-eqb (length ow) 5 h, ← S, words_back ws g, e, f)

@@ -1,18 +1,14 @@
--- Words laid over words, and the cache as its words.
+-- The cache as its words.
 use mathlib.Core.Path.{◌≡◌, refl, ap, ◌∙◌}
-use Prim.Native.Nat.{ℕ, zero, suc, ◌≤◌}
+use Prim.Native.Nat.{ℕ, zero, suc}
 use native.Mathlib.Omega.{arith}
 use mathlib.Core.List.{List, [], ◌∷◌, ◌++◌, append-nil}
-use lib.ListN.{length, take, drop, set, length-drop, drop_of_length-le}
+use lib.ListN.{length, take, drop, length-drop, drop_of_length-le}
 use lib.Seq.{take_all, take_at, drop_at}
 use Rattle.rules.specs.Cache.{Pointer}
 use Rattle.cache.specs.declared.{Cache.Cache}
 use Rattle.cache.specs.Code.{entries, pointers}
 use Rattle.capi.specs.Code.{entries_of, keys_of, places_of, cache_words}
-
--- a list laid wholly over another
-pub over-all : (s l b : List ℕ) (k : ℕ) → b ≡ take k s ++ drop k l → length l ≤ k → length s ≤ k → b ≡ s
-over-all s l b k e h g = e ∙ rw (take_all k s g, drop_of_length-le l h) (append-nil s)
 
 -- ---- the cache
 
@@ -54,21 +50,3 @@ pub both : (ws v w ks ps : List ℕ) → length ks ≡ 32 → length ws ≡ 64 �
 both ws v w ks ps h n e f =
     let none = drop_of_length-le (drop 32 ws) {i = 32} (omega (arith, length-drop 32 ws)) in
     f ∙ rw (e, take_at ks (drop 32 ws) 32 h, drop_at ks (drop 32 ws) 32 h, none, append-nil ps)
-
--- ---- few words, each set
-
-pub five : (l : List ℕ) → length l ≡ 5 → (a b c d e : ℕ) → set (set (set (set (set l 0 a) 1 b) 2 c) 3 d) 4 e ≡ a ∷ b ∷ c ∷ d ∷ e ∷ []
-five [] h a b c d e = absurd (omega arith)
-five (v ∷ []) h a b c d e = absurd (omega arith)
-five (v ∷ w ∷ []) h a b c d e = absurd (omega arith)
-five (v ∷ w ∷ x ∷ []) h a b c d e = absurd (omega arith)
-five (v ∷ w ∷ x ∷ y ∷ []) h a b c d e = absurd (omega arith)
-five (v ∷ w ∷ x ∷ y ∷ z ∷ []) h a b c d e = refl
-five (v ∷ w ∷ x ∷ y ∷ z ∷ u ∷ l) h a b c d e = absurd (omega arith)
-
-pub three : (l : List ℕ) → length l ≡ 3 → (a b c : ℕ) → set (set (set l 0 a) 1 b) 2 c ≡ a ∷ b ∷ c ∷ []
-three [] h a b c = absurd (omega arith)
-three (v ∷ []) h a b c = absurd (omega arith)
-three (v ∷ w ∷ []) h a b c = absurd (omega arith)
-three (v ∷ w ∷ x ∷ []) h a b c = refl
-three (v ∷ w ∷ x ∷ y ∷ l) h a b c = absurd (omega arith)

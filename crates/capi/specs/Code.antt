@@ -1,5 +1,5 @@
 -- What the C border takes and leaves, in words of 32 bits.
-use Rattle.std.specs.Prelude.{◌≡◌, ◌≢◌, ℕ, ◌<◌, Bool, true, false, List, [], ◌∷◌, ◌++◌, eqb, length, get_or, take, drop}
+use Rattle.std.specs.Prelude.{◌≡◌, ℕ, ◌<◌, Bool, true, false, List, [], ◌∷◌, ◌++◌, eqb, length, get_or, take, drop}
 use Rattle.rules.specs.declared.{Cursor.Cursor, Answer.Answer}
 use Rattle.rules.specs.Bytes.{pick, both, FlashStep}
 use Rattle.rules.specs.Power.{lasts, spend, units, cut_image}
@@ -191,19 +191,19 @@ step_border E i w o =
 -- ---- the inner functions
 
 -- the call that a change is
-abbrev pub change_call : Change → List ℕ → Call
-change_call (Store k) v = store_item k v
-change_call (Remove k) v = remove_item k
-change_call RemoveAll v = remove_all_items
-change_call EraseAll v = erase_all_pages
+abbrev pub change_call : Change → Call
+change_call (Store k v) = store_item k v.now
+change_call (Remove k) = remove_item k
+change_call RemoveAll = remove_all_items
+change_call EraseAll = erase_all_pages
 
 -- what a call told, if it fits; else something that does
 pub record WordsOk (told r : Told) : Type 0 where
   pub fits : Fits r.erased r.answer
   pub same : Fits told.erased told.answer → r ≡ told
 
--- an answer other than Corrupted is that of a fetch of key k, which changes nothing
-pub record StillOk (E m k : ℕ) (img ws : List ℕ) (a : Answer) : Type 0 where
-  pub is : number a ≢ 8
-      → record { answer = a; cursor = no_cursor; image = img; cache = entries_of ws; erased = 0 }
-      ≡ called 4 E m (fetch_item k) (record { image = img; cache = entries_of ws })
+-- an answer is that of a fetch of key k, which changes nothing
+abbrev pub StillOk : ℕ → ℕ → ℕ → List ℕ → List ℕ → Answer → Type 0
+StillOk E m k img ws a =
+    record { answer = a; cursor = no_cursor; image = img; cache = entries_of ws; erased = 0 }
+    ≡ called 4 E m (fetch_item k) (record { image = img; cache = entries_of ws })

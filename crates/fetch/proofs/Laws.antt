@@ -1,21 +1,23 @@
 -- The fetch, as the code tells it.
-use mathlib.Core.Path.{◌≡◌, refl, ap, sym, ◌∙◌}
-use Prim.Native.Nat.{ℕ, ◌≤◌}
+use mathlib.Core.Path.{◌≡◌, refl, sym, ◌∙◌}
+use Prim.Native.Nat.{ℕ, ◌≤◌, ◌<◌}
 use native.Mathlib.Omega.{arith}
 use native.Mathlib.Nat.{mul-le-mul_right}
-use mathlib.Core.List.{List}
 use borrow.Author.Tests.{ne_eqb, eq-eqb}
+use Rattle.std.specs.Prelude.{None, Some, Ok}
 use Rattle.rules.specs.declared.{Geo.Geo}
 use Rattle.rules.specs.Held.{Held}
-use Rattle.rules.specs.Cache.{Pointer, lookup, note, clear}
+use Rattle.rules.specs.Cache.{lookup}
 use Rattle.rules.specs.Runs.{St, cleared}
-use Rattle.rules.specs.Fetch.{Found, corrupt, missing, found, note_found, on_hit, full_fetch, fetch_in, hit}
-use Rattle.items.specs.declared.{Spot.Spot, Spot.TheVariants.Corrupt, Spot.TheVariants.Missing, Spot.TheVariants.At}
+use Rattle.rules.specs.Fetch.{Found, corrupt, missing, found, on_hit, full_fetch, fetch_in, hit}
+use Rattle.items.specs.declared.{Spot.Spot}
 use Rattle.items.specs.Code.{told}
 use Rattle.cache.specs.declared.{Cache.Cache}
-use Rattle.cache.specs.Code.{pointers, Past}
-use Rattle.fetch.specs.declared.{Mem.Mem, Fetched.Fetched}
-use Rattle.fetch.specs.Code.{st_of, Kept, Told, got_of, told_got}
+use Rattle.cache.specs.Code.{Past}
+use Rattle.ring.specs.declared.{flash.Flash.Flash}
+use Rattle.ring.specs.Flash.{IsSame}
+use Rattle.fetch.specs.declared.storage.Storage.{Storage}
+use Rattle.fetch.specs.Code.{Keeps}
 
 pub past_refl : (n : ℕ) (c : Cache) → Past n c c
 past_refl n c = record { keys_past = refl; places_past = refl }
@@ -23,62 +25,57 @@ past_refl n c = record { keys_past = refl; places_past = refl }
 pub past_trans : (n : ℕ) (c d e : Cache) → Past n c d → Past n d e → Past n c e
 past_trans n c d e p q = record { keys_past = q.keys_past ∙ p.keys_past; places_past = q.places_past ∙ p.places_past }
 
-pub kept_refl : (n : ℕ) (m : Mem) → Kept n m m
-kept_refl n m = record { past = past_refl n m.cache; erased = refl }
+pub same_refl : (f : Flash) → IsSame f f
+same_refl f = record { image = refl; geo = refl }
 
-pub kept_trans : (n : ℕ) (a b c : Mem) → Kept n a b → Kept n b c → Kept n a c
-kept_trans n a b c p q = record { past = past_trans n a.cache b.cache c.cache p.past q.past; erased = q.erased ∙ p.erased }
+pub same_trans : (f g h : Flash) → IsSame f g → IsSame g h → IsSame f h
+same_trans f g h p q = record { image = q.image ∙ p.image; geo = q.geo ∙ p.geo }
+
+pub keeps_refl : (s : Storage) → Keeps s s
+keeps_refl s = record { lent = refl; same = same_refl s.flash.now; slots = refl; past = past_refl s.slots.count s.cache }
+
+pub keeps_trans : (s t u : Storage) → Keeps s t → Keeps t u → Keeps s u
+keeps_trans s t u p q =
+    let q' = rw p.slots at q.past in
+    record {
+      lent = q.lent ∙ p.lent;
+      same = same_trans s.flash.now t.flash.now u.flash.now p.same q.same;
+      slots = q.slots ∙ p.slots;
+      past = past_trans s.slots.count s.cache t.cache u.cache p.past q';
+    }
 
 -- places are numbers of 32 bits
 pub held_len : (G : Geo) (len : ℕ) → Held G len → len ≤ 8388608
 held_len G len h = omega (arith, mul-le-mul_right G.page h.few)
 
-abbrev place_in : Spot → ℕ
-place_in Corrupt = 0
-place_in Missing = 0
-place_in (At p l) = p
+module _ (G : Geo) (k : ℕ) (s : St) where
+  -- nothing is cached
+  pub fetch-none : lookup k s.cache ≡ 0 → fetch_in G k s ≡ full_fetch G k s
+  unfolding fetch_in
+  fetch-none h = rw (eq-eqb _ _ h)
 
-module _ (G : Geo) (k : ℕ) where
-  pub full_bad : (s : St) (x : Found) → Corrupt ≡ told x → told_got (note_found k s x) ≡ record { st = s; spot = Corrupt }
-  full_bad s corrupt q = refl
-  full_bad s missing q = let z : ◌≡◌ {A = ℕ} 0 1 = cc in absurd (omega arith)
-  full_bad s (found e) q = let z : ◌≡◌ {A = ℕ} 0 1 = cc in absurd (omega arith)
+  module _ (p : ℕ) (lt : 0 < p) (h : p ≡ lookup k s.cache) where
+    used : lookup k s.cache ≡ 0 → ⊥
+    used z = omega arith
 
-  pub full-none : (s : St) (x : Found) → Missing ≡ told x → told_got (note_found k s x) ≡ record { st = s; spot = Missing }
-  full-none s corrupt q = let z : ◌≡◌ {A = ℕ} 0 1 = cc in absurd (omega arith)
-  full-none s missing q = refl
-  full-none s (found e) q = let z : ◌≡◌ {A = ℕ} 0 1 = cc in absurd (omega arith)
-
-  pub full_at : (s : St) (x : Found) (p l : ℕ) → At p l ≡ told x
-      → told_got (note_found k s x) ≡ record { st = record { img = s.img; cache = note k p s.cache; erased = s.erased }; spot = At p l }
-  full_at s corrupt p l q = let z : ◌≡◌ {A = ℕ} 0 1 = cc in absurd (omega arith)
-  full_at s missing p l q = let z : ◌≡◌ {A = ℕ} 0 1 = cc in absurd (omega arith)
-  full_at s (found e) p l q =
-      sym (ap {B = Told} (λ (r : Spot). record { st = record { img = s.img; cache = note k (place_in r) s.cache; erased = s.erased }; spot = r }) q)
-
-  pub on_none : (s : St) (x : Found) → Missing ≡ told x → on_hit G k s x ≡ full_fetch G k (cleared s)
-  on_none s corrupt q = refl
-  on_none s missing q = refl
-  on_none s (found e) q = let z : ◌≡◌ {A = ℕ} 0 1 = cc in absurd (omega arith)
-
-  pub on_at : (s : St) (x : Found) (p l : ℕ) → At p l ≡ told x → told_got (on_hit G k s x) ≡ record { st = s; spot = At p l }
-  on_at s corrupt p l q = let z : ◌≡◌ {A = ℕ} 0 1 = cc in absurd (omega arith)
-  on_at s missing p l q = let z : ◌≡◌ {A = ℕ} 0 1 = cc in absurd (omega arith)
-  on_at s (found e) p l q = sym (ap {B = Told} (λ (r : Spot). record { st = s; spot = r }) q)
-
-  module _ (n : ℕ) (img : List ℕ) (m : Mem) (a : ℕ) (ha : a ≡ lookup k (pointers n m.cache)) where
-    pub fetch-none : (f : Fetched) → a ≡ 0 → got_of n img f ≡ told_got (full_fetch G k (st_of n img m)) → got_of n img f ≡ told_got (fetch_in G k (st_of n img m))
+    -- the cached place holds no such item: the cache is emptied, and the search runs
+    pub fetch-miss : (G' : Geo) (s' : St) → G' ≡ G → s' ≡ cleared s → Ok None ≡ told (hit G s.img k p)
+        → full_fetch G' k s' ≡ fetch_in G k s
     unfolding fetch_in
-    fetch-none f z e = rw (← ha, eq-eqb _ _ z) e
+    fetch-miss G' s' hg hs q = rw (ne_eqb _ _ used, ← h, hg, hs) (go (hit G s.img k p) q)
+      where
+        go : (x : Found) → Ok None ≡ told x → full_fetch G k (cleared s) ≡ on_hit G k s x
+        go corrupt q = refl
+        go missing q = refl
+        go (found e) q = cc
 
-    pub fetch-hit : (p l : ℕ) → (a ≡ 0 → ⊥) → At p l ≡ told (hit G img k a) → record { st = st_of n img m; spot = At p l } ≡ told_got (fetch_in G k (st_of n img m))
+    -- it does
+    pub fetch-hit : (spot : Spot) → Ok (Some spot) ≡ told (hit G s.img k p)
+        → (told (fetch_in G k s).res ≡ Ok (Some spot)) × ((fetch_in G k s).st ≡ s)
     unfolding fetch_in
-    fetch-hit p l z q = rw (← ha, ne_eqb _ _ z) (sym (on_at (st_of n img m) (hit G img k a) p l q))
-
-    pub fetch_miss : (f : Fetched) (m' : Mem) → (a ≡ 0 → ⊥) → Missing ≡ told (hit G img k a) → pointers n m'.cache ≡ clear (pointers n m.cache) → m'.erased ≡ m.erased
-        → got_of n img f ≡ told_got (full_fetch G k (st_of n img m')) → got_of n img f ≡ told_got (fetch_in G k (st_of n img m))
-    unfolding fetch_in
-    fetch_miss f m' z q e₁ e₂ e =
-        rw (← ha, ne_eqb _ _ z, on_none (st_of n img m) (hit G img k a) q)
-        (e ∙ ap (λ (c : List Pointer). told_got (full_fetch G k (record { img = img; cache = c; erased = m'.erased }))) e₁
-        ∙ ap (λ (x : ℕ). told_got (full_fetch G k (record { img = img; cache = clear (pointers n m.cache); erased = x }))) e₂)
+    fetch-hit spot q = rw (ne_eqb _ _ used, ← h) (go (hit G s.img k p) q)
+      where
+        go : (x : Found) → Ok (Some spot) ≡ told x → (told (on_hit G k s x).res ≡ Ok (Some spot)) × ((on_hit G k s x).st ≡ s)
+        go corrupt q = cc
+        go missing q = cc
+        go (found e) q = (sym q, refl)

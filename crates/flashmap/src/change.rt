@@ -1,138 +1,92 @@
 // The changes of an image: made in memory, written to a new file, and told.
-use crate::listing;
-use rules::Answer;
-use shell::trouble::{Part, Trouble};
-use shell::{file, sheet, text};
-use tool::hex::Bytes;
-use tool::{number, word};
+use crate::image;
+use crate::image::Image;
+use shell::file;
+use shell::sheet::Sheet;
+use shell::trouble::Trouble;
+use std::alloc::Global;
+use std::io::Write;
+use std::rt::Files;
+use tool::{hex, number};
 
-// The changed image in the place of the old one, where the map did what it was asked.
-fn keep(rt: &HostRuntime, a: Answer, path: &[u8], img: &[u8]) -> Trouble {
-    let no = answer::number(a);
-    if no != 0 {
-        return Trouble::Refused(no);
+// The changed image in the place of the old one.
+fn keep<R: Files + AllocGlobal>(rt: &R, image: &Image<'_>) -> Result<(), Trouble> {
+    file::replace(rt, image.path, &image.bytes)
+}
+
+// The value that is typed; a line stands for the empty one.
+fn value_of(alloc: Global, typed: &[u8]) -> Result<Vec<u8>, Trouble> {
+    if let b"-" = typed {
+        return Ok(Vec::new(alloc));
     }
-    file::replace(rt, path, img)
+    let mut value = vec![in alloc; 0u8; typed.len() / 2]?;
+    hex::read(typed, &mut value)?;
+    Ok(value)
 }
 
-// The pages that a change erased.
-fn say_erased(rt: &HostRuntime, out: &mut [u8], n: usize) {
-    text::say_number(rt, out, text::ERASES, n);
-    sheet::put_end(rt, out);
-}
-
-// A key gets a value.
-fn store_value(
-    rt: &HostRuntime,
-    img: &mut [u8],
-    page: usize,
-    key: u32,
-    value: &[u8],
-    path: &[u8],
-    out: &mut [u8],
-) -> Trouble {
-    let told = map::store_item(img, page, listing::no_cache(), 0, key, value);
-    let t = keep(rt, told.answer, path, img);
-    if let Trouble::Nothing = t {
-        text::say_number(rt, out, text::THE_KEY, key as usize);
-        text::say_number(rt, out, text::STORED, value.len());
-        say_erased(rt, out, told.erased);
-    }
-    t
-}
-
-// A key gets the value that is typed; a line stands for the empty one.
-pub fn store(
-    rt: &HostRuntime,
-    img: &mut [u8],
-    page: usize,
+/// A key gets the value that is typed.
+pub fn store<R: Files + AllocGlobal, W: Write + Drop>(
+    rt: &R,
+    image: &mut Image<'_>,
     key: u32,
     typed: &[u8],
-    path: &[u8],
-    out: &mut [u8],
-) -> Trouble {
-    let mut value = [0u8; 65536];
-    if typed == b"-".as_slice() {
-        return store_value(rt, img, page, key, b"", path, out);
-    }
-    let b = tool::hex::read(typed, &mut value);
-    match b {
-        Bytes::Bad => Trouble::Bad(Part::Hex),
-        Bytes::Long => Trouble::Refused(6),
-        Bytes::Count(n) => store_value(rt, img, page, key, word::head(&value, n), path, out),
-    }
+    out: &mut Sheet<W>,
+) -> Result<(), Trouble> {
+    let value = value_of(rt.alloc(), typed)?;
+    let erased = image.store(key, &value)?;
+    keep(rt, image)?;
+    out.put_line(format_args!(
+        "key {key} stored, length {}; pages erased: {erased}",
+        value.len()
+    ));
+    Ok(())
 }
 
-// Does the map answer that it holds no such key?
-fn is_missing(img: &[u8], page: usize, key: u32) -> bool {
-    let a = map::fetch_plain(img, page, key);
-    if let Answer::None = a { true } else { false }
-}
-
-// A key is removed.
-pub fn remove(
-    rt: &HostRuntime,
-    img: &mut [u8],
-    page: usize,
+/// A key is removed.
+pub fn remove<R: Files + AllocGlobal, W: Write + Drop>(
+    rt: &R,
+    image: &mut Image<'_>,
     key: u32,
-    path: &[u8],
-    out: &mut [u8],
-) -> Trouble {
-    if is_missing(img, page, key) {
-        text::say_number(rt, out, text::THE_KEY, key as usize);
-        text::say_line(rt, out, text::NOT_HELD);
-        return Trouble::Nothing;
+    out: &mut Sheet<W>,
+) -> Result<(), Trouble> {
+    if let Ok(None) = image.fetch(key) {
+        out.put_line(format_args!("key {key} is not held; nothing was changed"));
+        return Ok(());
     }
-    let told = map::remove_item(img, page, listing::no_cache(), 0, key);
-    let t = keep(rt, told.answer, path, img);
-    if let Trouble::Nothing = t {
-        text::say_number(rt, out, text::THE_KEY, key as usize);
-        text::say(rt, out, text::REMOVED);
-        say_erased(rt, out, told.erased);
-    }
-    t
+    let erased = image.remove(key)?;
+    keep(rt, image)?;
+    out.put_line(format_args!("key {key} removed; pages erased: {erased}"));
+    Ok(())
 }
 
-// All pages are erased.
-pub fn erase(
-    rt: &HostRuntime,
-    img: &mut [u8],
-    page: usize,
-    path: &[u8],
-    out: &mut [u8],
-) -> Trouble {
-    let told = map::erase_all(img, page, listing::no_cache(), 0);
-    let t = keep(rt, told.answer, path, img);
-    if let Trouble::Nothing = t {
-        text::say(rt, out, text::ERASED);
-        say_erased(rt, out, told.erased);
-    }
-    t
+/// All pages are erased.
+pub fn erase<R: Files + AllocGlobal, W: Write + Drop>(
+    rt: &R,
+    image: &mut Image<'_>,
+    out: &mut Sheet<W>,
+) -> Result<(), Trouble> {
+    let erased = image.erase()?;
+    keep(rt, image)?;
+    out.put_line(format_args!("all pages blank; pages erased: {erased}"));
+    Ok(())
 }
 
-// A new image of blank pages, where there is no file yet.
-pub fn blank(
-    rt: &HostRuntime,
-    room: &mut [u8],
+/// A new image of blank pages, where there is no file yet.
+pub fn blank<R: Files + AllocGlobal, W: Write + Drop>(
+    rt: &R,
+    path: &[u8],
     page: u32,
     pages: u32,
-    path: &[u8],
-    out: &mut [u8],
-) -> Trouble {
-    let n = number::product(page, pages);
-    let no = answer::number(map::try_new(page as usize, n, 0));
-    if no != 0 {
-        return Trouble::Refused(no);
+    out: &mut Sheet<W>,
+) -> Result<(), Trouble> {
+    let len = number::product(page, pages);
+    // no From leads from u32 to usize
+    image::fits(page as usize, len)?;
+    if len > image::IMAGE_BYTES as usize {
+        return Err(Trouble::Large);
     }
-    if room.len() < n {
-        return Trouble::Large;
-    }
-    let img = word::head_mut(room, n);
-    map::erase_all(img, page as usize, listing::no_cache(), 0);
-    let t = file::make(rt, path, img, Trouble::Exists);
-    if let Trouble::Nothing = t {
-        text::say_number(rt, out, text::MADE, pages as usize);
-        sheet::put_end(rt, out);
-    }
-    t
+    let bytes = vec![in rt.alloc(); 255u8; len]?;
+    file::make(rt, path, &bytes, Trouble::Exists)?;
+    out.put_line(format_args!("blank pages made: {pages}"));
+    Ok(())
 }

@@ -1,183 +1,113 @@
 // A command: its words read, its image loaded, its verb done.
+use crate::image::Image;
 use crate::{change, demo, listing, pages};
-use shell::file::Loaded;
+use shell::sheet::Sheet;
 use shell::trouble::{Part, Trouble};
-use shell::{file, text};
-use tool::number::Number;
-use tool::word;
+use std::io::Write;
+use std::rt::Files;
+use tool::number;
 
+const HELP: &str = "flashmap: shows and changes the image of a flash key-value map
+
+  flashmap IMAGE PAGE check           sound, or the first reason why not
+  flashmap IMAGE PAGE list            the newest value of each key
+  flashmap IMAGE PAGE walk            all versions in ring order, with their places
+  flashmap IMAGE PAGE draw            each page: its state and a bar of its bytes
+  flashmap IMAGE PAGE fetch KEY       the newest value of one key
+  flashmap IMAGE PAGE store KEY HEX   gives a key a value
+  flashmap IMAGE PAGE remove KEY      removes a key
+  flashmap IMAGE PAGE erase           erases all pages
+  flashmap IMAGE PAGE blank PAGES     makes a blank image, where there is no file yet
+  flashmap script FILE                runs the commands of a file, one a line
+  flashmap demo                       fills a small image in memory, and draws it
+  flashmap help                       shows this
+
+IMAGE is a file of at most 2 MiB, PAGE the size of its pages in bytes. Numbers
+are decimal, or hexadecimal after 0x. HEX is two digits a byte; - or \"\" is the
+empty value. A changed image is written to IMAGE.new, which then takes the name
+IMAGE. What goes wrong is told on standard error, with exit status 1, and
+leaves the image as it was. A line of a script is a command without the word
+flashmap, or a comment that begins with #.";
+
+// What to do with the image in a file, and the words after it as they are typed.
 #[derive(Clone, Copy)]
-pub enum Verb {
+enum Verb<'a> {
     Check,
     List,
     Walk,
     Draw,
     Erase,
-    Fetch,
-    Remove,
-    Blank,
-    Store,
-    Unknown,
+    Fetch { key: &'a [u8] },
+    Remove { key: &'a [u8] },
+    Store { key: &'a [u8], value: &'a [u8] },
 }
 
-// The verb that a word is, of those with a word after them, or two.
-fn long_verb(s: &[u8]) -> Verb {
-    match s {
-        b"fetch" => Verb::Fetch,
-        b"remove" => Verb::Remove,
-        b"blank" => Verb::Blank,
-        b"store" => Verb::Store,
-        _ => Verb::Unknown,
+impl<'a> Verb<'a> {
+    fn parse(verb: &[u8], words: &[&'a [u8]]) -> Result<Verb<'a>, Trouble> {
+        match (verb, words) {
+            (b"check", []) => Ok(Verb::Check),
+            (b"list", []) => Ok(Verb::List),
+            (b"walk", []) => Ok(Verb::Walk),
+            (b"draw", []) => Ok(Verb::Draw),
+            (b"erase", []) => Ok(Verb::Erase),
+            (b"fetch", [key]) => Ok(Verb::Fetch { key }),
+            (b"remove", [key]) => Ok(Verb::Remove { key }),
+            (b"store", [key, value]) => Ok(Verb::Store { key, value }),
+            (b"check" | b"list" | b"walk" | b"draw" | b"erase", _) => Err(Trouble::Words),
+            (b"fetch" | b"remove" | b"store" | b"blank", _) => Err(Trouble::Words),
+            _ => Err(Trouble::Bad(Part::Verb)),
+        }
     }
 }
 
-// The verb that a word is.
-fn verb_of(s: &[u8]) -> Verb {
-    match s {
-        b"check" => Verb::Check,
-        b"list" => Verb::List,
-        b"walk" => Verb::Walk,
-        b"draw" => Verb::Draw,
-        b"erase" => Verb::Erase,
-        _ => long_verb(s),
-    }
-}
-
-// How many words a command with this verb has; 0 where there is no such verb.
-fn length(v: Verb) -> usize {
-    match v {
-        Verb::Check => 3,
-        Verb::List => 3,
-        Verb::Walk => 3,
-        Verb::Draw => 3,
-        Verb::Erase => 3,
-        Verb::Fetch => 4,
-        Verb::Remove => 4,
-        Verb::Blank => 4,
-        Verb::Store => 5,
-        Verb::Unknown => 0,
-    }
-}
-
-// A verb on an image and a key.
-fn on_key(
-    rt: &HostRuntime,
-    v: Verb,
-    img: &mut [u8],
-    page: usize,
-    key: u32,
-    line: &[u8],
-    out: &mut [u8],
-) -> Trouble {
-    match v {
-        Verb::Fetch => listing::fetch(rt, img, page, key, out),
-        Verb::Remove => change::remove(rt, img, page, key, word::word(line, 0), out),
-        _ => change::store(
-            rt,
-            img,
-            page,
-            key,
-            word::word(line, 4),
-            word::word(line, 0),
-            out,
-        ),
-    }
+// The number that a word of a command is.
+fn number(word: &[u8], part: Part) -> Result<u32, Trouble> {
+    number::read(word).ok_or(Trouble::Bad(part))
 }
 
 // A verb on an image.
-fn on_image(
-    rt: &HostRuntime,
-    v: Verb,
-    img: &mut [u8],
-    page: usize,
-    line: &[u8],
-    out: &mut [u8],
-) -> Trouble {
-    match v {
-        Verb::Check => pages::check(rt, img, page, out),
-        Verb::List => listing::list(rt, img, page, out),
-        Verb::Walk => listing::walk(rt, img, page, out),
-        Verb::Draw => pages::draw(rt, img, page, out),
-        Verb::Erase => change::erase(rt, img, page, word::word(line, 0), out),
-        _ => {
-            let k = tool::number::read(word::word(line, 3));
-            match k {
-                Number::Bad => Trouble::Bad(Part::Key),
-                Number::Is(key) => on_key(rt, v, img, page, key, line, out),
-            }
+fn on_image<R: Files + AllocGlobal, W: Write + Drop>(
+    rt: &R,
+    verb: Verb<'_>,
+    image: &mut Image<'_>,
+    out: &mut Sheet<W>,
+) -> Result<(), Trouble> {
+    match verb {
+        Verb::Check => pages::check(image, out),
+        Verb::List => listing::list(rt.alloc(), image, out),
+        Verb::Walk => listing::walk(image, out),
+        Verb::Draw => pages::draw(image, out),
+        Verb::Erase => change::erase(rt, image, out),
+        Verb::Fetch { key } => listing::fetch(image, number(key, Part::Key)?, out),
+        Verb::Remove { key } => change::remove(rt, image, number(key, Part::Key)?, out),
+        Verb::Store { key, value } => {
+            change::store(rt, image, number(key, Part::Key)?, value, out)
         }
     }
 }
 
-// A new image.
-fn make(rt: &HostRuntime, room: &mut [u8], page: u32, line: &[u8], out: &mut [u8]) -> Trouble {
-    let k = tool::number::read(word::word(line, 3));
-    match k {
-        Number::Bad => Trouble::Bad(Part::Pages),
-        Number::Is(n) => change::blank(rt, room, page, n, word::word(line, 0), out),
-    }
-}
-
-// A verb on the image in a file, or the making of one.
-fn on_file(
-    rt: &HostRuntime,
-    v: Verb,
-    room: &mut [u8],
-    page: u32,
-    line: &[u8],
-    out: &mut [u8],
-) -> Trouble {
-    if let Verb::Blank = v {
-        return make(rt, room, page, line, out);
-    }
-    let got = file::load(rt, word::word(line, 0), room);
-    match got {
-        Loaded::Not(t) => t,
-        Loaded::Bytes(n) => on_image(rt, v, word::head_mut(room, n), page as usize, line, out),
-    }
-}
-
-// A command on an image: IMAGE PAGE VERB ..
-fn on_words(rt: &HostRuntime, line: &[u8], n: usize, room: &mut [u8], out: &mut [u8]) -> Trouble {
-    let v = verb_of(word::word(line, 2));
-    let most = length(v);
-    if most == 0 {
-        return Trouble::Bad(Part::Verb);
-    }
-    if n != most {
-        return Trouble::Words;
-    }
-    let k = tool::number::read(word::word(line, 1));
-    match k {
-        Number::Bad => Trouble::Bad(Part::Page),
-        Number::Is(page) => on_file(rt, v, room, page, line, out),
-    }
-}
-
-// A command of one word.
-fn alone(rt: &HostRuntime, s: &[u8], room: &mut [u8], out: &mut [u8]) -> Trouble {
-    match s {
-        b"help" => {
-            text::say_help(rt, out);
-            Trouble::Nothing
+/// A command, by its words; no word asks for help.
+pub fn run<R: Files + AllocGlobal, W: Write + Drop>(
+    rt: &R,
+    words: &[&[u8]],
+    out: &mut Sheet<W>,
+) -> Result<(), Trouble> {
+    match words {
+        [] | [b"help"] => {
+            out.put_line(HELP);
+            Ok(())
         }
-        b"demo" => demo::run(rt, room, out),
-        _ => Trouble::Words,
+        [b"demo"] => demo::run(rt.alloc(), out),
+        [path, page, b"blank", pages] => {
+            let page = number(page, Part::Page)?;
+            let pages = number(pages, Part::Pages)?;
+            change::blank(rt, path, page, pages, out)
+        }
+        [path, page, verb, words @ ..] => {
+            let verb = Verb::parse(verb, words)?;
+            let page = number(page, Part::Page)?;
+            on_image(rt, verb, &mut Image::load(rt, path, page)?, out)
+        }
+        _ => Err(Trouble::Words),
     }
-}
-
-// A command, as a line of words; no word asks for help.
-pub fn run(rt: &HostRuntime, line: &[u8], room: &mut [u8], out: &mut [u8]) -> Trouble {
-    let n = word::count(line);
-    if n == 0 {
-        text::say_help(rt, out);
-        return Trouble::Nothing;
-    }
-    if n == 1 {
-        return alone(rt, word::word(line, 0), room, out);
-    }
-    if n == 2 {
-        return Trouble::Words;
-    }
-    on_words(rt, line, n, room, out)
 }

@@ -4,140 +4,108 @@
 mod change;
 mod command;
 mod demo;
+mod image;
 mod listing;
 mod pages;
 mod script;
 
-use shell::file::Loaded;
+use shell::file;
+use shell::sheet::Sheet;
 use shell::trouble::Trouble;
-use shell::{file, sheet, text, trouble};
 use std::env::{Env, FillError};
-use tool::word;
+use std::io::Stdout;
 
-// What became of an argument: there is none, it has no room, or the line ends after it now.
-enum Added {
-    Nothing,
-    Long,
-    Upto(usize),
-}
+// How many bytes the arguments have at most, with one after each.
+const ARGUMENT_BYTES: usize = 139264;
 
-// Argument i, with a 0 after it, at index at of line.
-fn add_argument(rt: &HostRuntime, i: usize, line: &mut [u8], at: usize) -> Added {
-    if line.len() < at {
-        return Added::Long;
-    }
-    match rt.arg(i, &mut line[at..]) {
-        Err(FillError::NotPresent) => Added::Nothing,
-        Err(FillError::TooLong) => Added::Long,
-        Ok(n) => {
-            if line.len() - at <= n {
-                return Added::Long;
-            }
-            line[at + n] = 0;
-            Added::Upto(at + n + 1)
-        }
-    }
-}
+// How many bytes a script has at most.
+const SCRIPT_BYTES: u32 = 65536;
 
-// The arguments as a line of words, at the start of line.
-fn arguments(rt: &HostRuntime, line: &mut [u8]) -> Loaded {
-    let mut at: usize = 0;
+// The arguments, without the program's name.
+fn arguments(rt: &(impl Env + AllocGlobal)) -> Result<Vec<Vec<u8>>, Trouble> {
+    let mut arguments = Vec::new(rt.alloc());
+    // std's list of arguments refuses one that is not UTF-8, so each is read into a buffer
+    let mut buffer = [0u8; ARGUMENT_BYTES];
+    let mut room = ARGUMENT_BYTES;
     for i in 1..usize::MAX {
-        match add_argument(rt, i, line, at) {
-            Added::Nothing => return Loaded::Bytes(at),
-            Added::Long => return Loaded::Not(Trouble::Long),
-            Added::Upto(n) => at = n,
+        match rt.arg(i, &mut buffer) {
+            Err(FillError::NotPresent) => break,
+            Err(FillError::TooLong) => return Err(Trouble::Long),
+            Ok(n) => {
+                room = room.checked_sub(n + 1).ok_or(Trouble::Long)?;
+                arguments.push(Vec::from_slice(rt.alloc(), &buffer[..n])?)?;
+            }
         }
     }
-    Loaded::Bytes(at)
+    Ok(arguments)
 }
 
 // Trouble, told on standard error.
-fn complain(rt: &HostRuntime, out: &mut [u8], t: Trouble, line: &[u8], path: &[u8]) {
-    sheet::open(out, 2);
-    text::say(rt, out, text::NAME);
-    sheet::put(rt, out, b" ");
-    trouble::tell(rt, out, t, line, path);
-    sheet::flush(rt, out);
+fn complain(rt: &HostRuntime, trouble: Trouble, words: &[&[u8]]) {
+    let mut errors = Sheet::new(rt.alloc(), rt.stderr());
+    errors.put("flashmap: ");
+    trouble.tell(words, &mut errors);
+    errors.flush();
 }
 
 // The end of standard output.
-fn finish(rt: &HostRuntime, out: &mut [u8]) {
-    sheet::flush(rt, out);
-    if sheet::goes(out) == 0 {
-        sheet::open(out, 2);
-        text::say_line(rt, out, text::LOST);
-        sheet::flush(rt, out);
+fn finish(rt: &HostRuntime, out: &mut Sheet<Stdout>) {
+    out.flush();
+    if out.is_lost() {
+        let _ = eprintln!(rt; "flashmap: standard output can't be written; give it another place");
     }
 }
 
 // One command.
-fn run_one(rt: &HostRuntime, line: &[u8], room: &mut [u8], out: &mut [u8]) {
-    let t = command::run(rt, line, room, out);
-    finish(rt, out);
-    if !trouble::is_nothing(t) {
-        complain(rt, out, t, line, word::word(line, 0));
+fn run_command(rt: &HostRuntime, words: &[&[u8]]) {
+    let mut out = Sheet::new(rt.alloc(), rt.stdout());
+    let done = command::run(rt, words, &mut out);
+    finish(rt, &mut out);
+    if let Err(trouble) = done {
+        complain(rt, trouble, words);
     }
 }
 
 // The commands of a script.
-fn run_text(rt: &HostRuntime, script: &[u8], room: &mut [u8], out: &mut [u8]) {
-    let failed = script::play_all(rt, script, room, out);
-    finish(rt, out);
-    if 0 < failed {
-        sheet::open(out, 2);
-        text::say(rt, out, text::NAME);
-        sheet::put(rt, out, b" ");
-        text::say_number(rt, out, text::FAILED, failed);
-        text::say_line(rt, out, text::WHICH);
-        sheet::flush(rt, out);
+fn run_script(rt: &HostRuntime, path: &[u8]) -> Result<(), Trouble> {
+    let script = file::load(rt, path, SCRIPT_BYTES)?;
+    let mut out = Sheet::new(rt.alloc(), rt.stdout());
+    let played = script::play(rt, &script, &mut out);
+    finish(rt, &mut out);
+    let failed = played?;
+    if failed > 0 {
+        let _ = eprintln!(rt;
+            "flashmap: failed commands of the script: {failed}; its output says which and why"
+        );
     }
+    Ok(())
 }
 
-// A script.
-fn run_script(rt: &HostRuntime, line: &[u8], room: &mut [u8], out: &mut [u8]) {
-    let mut script = [0u8; 65536];
-    let got = file::load(rt, word::word(line, 1), &mut script);
-    match got {
-        Loaded::Not(t) => complain(rt, out, t, line, word::word(line, 1)),
-        Loaded::Bytes(n) => run_text(rt, word::head(&script, n), room, out),
-    }
-}
-
-// A command or a script.
-fn run(rt: &HostRuntime, line: &[u8], room: &mut [u8], out: &mut [u8]) {
-    if word::count(line) == 2 {
-        if word::word(line, 0) == b"script".as_slice() {
-            run_script(rt, line, room, out);
-            return;
+// A command, or the commands of a script.
+fn run(rt: &HostRuntime, words: &[&[u8]]) {
+    match words {
+        [b"script", path] => {
+            if let Err(trouble) = run_script(rt, path) {
+                complain(rt, trouble, &[path]);
+            }
         }
+        _ => run_command(rt, words),
     }
-    run_one(rt, line, room, out);
-}
-
-// A command or a script, in room of its own for an image.
-fn run_in(rt: &HostRuntime, line: &[u8], room: &mut [u8; 2097152], out: &mut [u8]) {
-    run(rt, line, room, out);
-}
-
-// The same with this room.
-fn run_in_room(rt: &HostRuntime, line: &[u8], out: &mut [u8]) {
-    let mut room = [0u8; 2097152];
-    run_in(rt, line, &mut room, out);
 }
 
 // What the arguments ask.
-fn start(rt: &HostRuntime, line: &mut [u8], out: &mut [u8]) {
-    sheet::open(out, 1);
-    let got = arguments(rt, line);
-    match got {
-        Loaded::Not(t) => complain(rt, out, t, line, line),
-        Loaded::Bytes(n) => run_in_room(rt, word::head(line, n), out),
-    }
+fn start(rt: &HostRuntime) -> Result<(), Trouble> {
+    let arguments = arguments(rt)?;
+    let words: Vec<&[u8]> = arguments
+        .iter()
+        .map(|argument| argument.as_slice())
+        .collect(rt.alloc())?;
+    run(rt, &words);
+    Ok(())
 }
 
 fn main(rt: HostRuntime) {
-    let mut line = [0u8; 139264];
-    let mut out = [0u8; 65536];
-    start(&rt, &mut line, &mut out);
+    if let Err(trouble) = start(&rt) {
+        complain(&rt, trouble, &[]);
+    }
 }

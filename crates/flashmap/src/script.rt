@@ -1,46 +1,44 @@
 // A script: the commands of a file, one a line. Each is shown before its output; its trouble is told after it.
 use crate::command;
-use shell::{sheet, text, trouble};
-use tool::{scan, word};
+use shell::sheet::Sheet;
+use std::alloc::AllocError;
+use std::io::Write;
+use std::rt::Files;
+use tool::word;
 
-// A command of a script: whether it is done.
-fn play(rt: &HostRuntime, typed: &[u8], line: &[u8], room: &mut [u8], out: &mut [u8]) -> bool {
-    sheet::put(rt, out, b"> ");
-    sheet::put(rt, out, typed);
-    sheet::put_end(rt, out);
-    let t = command::run(rt, line, room, out);
-    if trouble::is_nothing(t) {
-        return true;
-    }
-    text::say(rt, out, text::ERROR);
-    sheet::put(rt, out, b" ");
-    trouble::tell(rt, out, t, line, word::word(line, 0));
-    false
-}
-
-// A line of a script: an empty one, or one whose first word begins with #, is passed over.
-fn play_line(rt: &HostRuntime, typed: &[u8], room: &mut [u8], out: &mut [u8]) -> bool {
-    let mut line = [0u8; 65537];
-    let n = word::part(typed, &mut line);
-    if n == 0 {
-        return true;
-    }
-    if line[0] == b'#' {
-        return true;
-    }
-    play(rt, typed, word::head(&line, n), room, out)
-}
-
-// All lines: how many commands failed.
-pub fn play_all(rt: &HostRuntime, script: &[u8], room: &mut [u8], out: &mut [u8]) -> usize {
-    let mut failed: usize = 0;
-    let mut from: usize = 0;
-    while from < script.len() {
-        let e = scan::find(script, from, script.len(), 10);
-        if !play_line(rt, &script[from..e], room, out) {
-            failed += 1;
+// A command, shown and run: whether it was done.
+fn play_command<R: Files + AllocGlobal, W: Write + Drop>(
+    rt: &R,
+    line: &[u8],
+    words: &[&[u8]],
+    out: &mut Sheet<W>,
+) -> bool {
+    out.put("> ");
+    out.put_bytes(line);
+    out.put("\n");
+    match command::run(rt, words, out) {
+        Ok(()) => true,
+        Err(trouble) => {
+            out.put("error: ");
+            trouble.tell(words, out);
+            false
         }
-        from = e + 1;
     }
-    failed
+}
+
+/// All lines: how many commands failed. An empty line, or one whose first word begins with #, is passed over.
+pub fn play<R: Files + AllocGlobal, W: Write + Drop>(
+    rt: &R,
+    script: &[u8],
+    out: &mut Sheet<W>,
+) -> Result<usize, AllocError> {
+    let mut failed = 0usize;
+    for line in script.split(|b| *b == b'\n') {
+        let words = word::words(rt.alloc(), line)?;
+        let is_command = words.first().is_some_and(|word| !word.starts_with(b"#"));
+        if is_command && !play_command(rt, line, &words, out) {
+            failed = failed.saturating_add(1);
+        }
+    }
+    Ok(failed)
 }

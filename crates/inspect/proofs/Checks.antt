@@ -1,7 +1,7 @@
 -- Each test of the first fault, by what it says of the ring: from no fault to a sound image, and back.
 use Rattle.std.proofs.Math.Path.{◌≡◌, refl, ap}
 use Rattle.std.proofs.Common.{sym, ◌∙◌, arith, length-drop, length-take-le}
-use Rattle.std.specs.Prelude.{◌≢◌, ◌⊎◌, not, List, [], ◌∷◌, ◌++◌, ltb, eqb, length, take, drop, replicate}
+use Rattle.std.specs.Prelude.{◌≢◌, ◌⊎◌, not, Option, None, Some, List, [], ◌∷◌, ◌++◌, ltb, eqb, length, take, drop, replicate}
 use Prim.Native.Nat.{ℕ, suc, ◌-◌, ◌<◌}
 use Rattle.std.proofs.Math.Bool.{Bool, true, false}
 use borrow.Author.Tests.{ltb-true, ltb-false, lt-ltb, le-ltb, eqb-true, eqb-false}
@@ -14,24 +14,20 @@ use Rattle.laws.specs.Geometry.{Fit, page_in}
 use Rattle.laws.specs.Rings.{ring_cons, ring_next, rest_all, all_rest, partial_is}
 use Rattle.laws.specs.Moves.{next_in, next_other, turned}
 use Rattle.laws.specs.Tails.{area-length, end_high}
-use Rattle.inspect.specs.declared.{Fault.Fault, Fault.TheVariants.Nothing, Fault.TheVariants.CorruptedPage, Fault.TheVariants.NoPartialOpen, Fault.TheVariants.SecondPartialOpen, Fault.TheVariants.NextNotOpen, Fault.TheVariants.OpenApart, Fault.TheVariants.TailNotBlank}
+use Rattle.inspect.specs.declared.{Fault.Fault, Fault.TheVariants.CorruptedPage, Fault.TheVariants.NoPartialOpen, Fault.TheVariants.SecondPartialOpen, Fault.TheVariants.NextNotOpen, Fault.TheVariants.OpenApart, Fault.TheVariants.TailNotBlank}
 use Rattle.inspect.specs.Faults.{not_ff, second_partial, open_apart, open_after, dirty, first_dirty, dirty_fault, data_fault, tail_fault, blank_fault, used_fault, page_fault}
+use Rattle.inspect.proofs.Laws.{passed}
 use Rattle.inspect.proofs.Firsts.{two_states, is_open, is_partial, all_ff_lem, ff_all, none_by, by_none, First, some_by, with_by, parted, parted-none, partial_head}
-
--- a test that finds no fault
-passed : (b : Bool) (f r : Fault) → f ≢ Nothing → pick b f r ≡ Nothing → (b ≡ false) × (r ≡ Nothing)
-passed true f r n e = absurd (n e)
-passed false f r n e = (refl, e)
 
 not_false : (b : Bool) → not b ≡ false → b ≡ true
 not_false true e = refl
-not_false false e = let z : ◌≡◌ {A = ℕ} 0 1 = cc in absurd (omega arith)
+not_false false e = cc
 
 only_open : (s : PageState) → same PartialOpen s ≡ false → same Corrupted s ≡ false → same Closed s ≡ false → s ≡ Open
 only_open Open p c k = refl
-only_open PartialOpen p c k = let z : ◌≡◌ {A = ℕ} 0 1 = cc in absurd (omega arith)
-only_open Closed p c k = let z : ◌≡◌ {A = ℕ} 0 1 = cc in absurd (omega arith)
-only_open Corrupted p c k = let z : ◌≡◌ {A = ℕ} 0 1 = cc in absurd (omega arith)
+only_open PartialOpen p c k = cc
+only_open Closed p c k = cc
+only_open Corrupted p c k = cc
 
 module _ (G : Geo) (img : List ℕ) (ok : Fit G img) where
   -- what holds of each page
@@ -63,12 +59,12 @@ module _ (G : Geo) (img : List ℕ) (ok : Fit G img) where
   closed_clean : (q : ℕ) → state G img q ≡ Closed → dirty G img q ≡ false
   closed_clean q c = rw c
 
-  no-dirty : (r : Fault) → data_fault G img r ≡ Nothing → ((q : ℕ) → q < G.pages → dirty G img q ≡ false) × (r ≡ Nothing)
+  no-dirty : (r : Option Fault) → data_fault G img r ≡ None → ((q : ℕ) → q < G.pages → dirty G img q ≡ false) × (r ≡ None)
   no-dirty r e =
-      let t = passed (is_page G (first_dirty G img)) (dirty_fault G img (first_dirty G img)) r (λ x. let z : ◌≡◌ {A = ℕ} 0 1 = cc in omega arith) e in
+      let t = passed (is_page G (first_dirty G img)) (dirty_fault G img (first_dirty G img)) r e in
       (at_each (λ q. dirty G img q ≡ false) (none_by G (dirty G img) (all_pages G) (each (λ q. q < G.pages) (λ q h. h)) t.0), t.1)
 
-  dirty-no : (r : Fault) → ((q : ℕ) → q < G.pages → dirty G img q ≡ false) → data_fault G img r ≡ r
+  dirty-no : (r : Option Fault) → ((q : ℕ) → q < G.pages → dirty G img q ≡ false) → data_fault G img r ≡ r
   dirty-no r h =
       let d : first_dirty G img ≡ G.pages = by_none G (dirty G img) (all_pages G) (each (λ q. dirty G img q ≡ false) h) in
       rw (d, le-ltb G.pages G.pages (omega arith))
@@ -76,15 +72,15 @@ module _ (G : Geo) (img : List ℕ) (ok : Fit G img) where
   -- ---- no page is PartialOpen
 
   blank_sound : ((q : ℕ) → q < G.pages → same Corrupted (state G img q) ≡ false) → ((q : ℕ) → q < G.pages → same PartialOpen (state G img q) ≡ false)
-      → blank_fault G img ≡ Nothing → Sound G img
+      → blank_fault G img ≡ None → Sound G img
   unfolding blank_fault
   blank_sound nc np e =
       let c = first_page G Closed img in
-      let t = passed (is_page G c) (NoPartialOpen c) (data_fault G img Nothing) (λ x. let z : ◌≡◌ {A = ℕ} 0 1 = cc in omega arith) e in
-      let d = no-dirty Nothing t.1 in
+      let t = passed (is_page G c) (NoPartialOpen c) (data_fault G img None) e in
+      let d = no-dirty None t.1 in
       blank_ring (λ q h. clean q h (only_open (state G img q) (np q h) (nc q h) (no-page Closed t.0 q h)) (d.0 q h))
 
-  sound_blank : ((q : ℕ) → q < G.pages → Unused G img q) → page_fault G img ≡ Nothing
+  sound_blank : ((q : ℕ) → q < G.pages → Unused G img q) → page_fault G img ≡ None
   unfolding page_fault blank_fault
   sound_blank u =
       let n = le-ltb G.pages G.pages (omega arith) in
@@ -96,7 +92,7 @@ module _ (G : Geo) (img : List ℕ) (ok : Fit G img) where
         page-no Closed (λ q h. rw (u q h).is_open),
         n,
       )
-      (dirty-no Nothing (λ q h. unused_clean q (u q h)))
+      (dirty-no None (λ q h. unused_clean q (u q h)))
 
   -- ---- page p is the first PartialOpen one
 
@@ -140,16 +136,16 @@ module _ (G : Geo) (img : List ℕ) (ok : Fit G img) where
         length-take-le (end_at G p - (scan_of G img p).end) (drop (scan_of G img p).end img)
         (rw length-drop (omega (arith, end_high G img ok p hp, page_in G.page p G.pages hp, ok.held.room, ok.held.whole)))
 
-    no_tail : tail_fault G img p ≡ Nothing → BlankTail G img p
+    no_tail : tail_fault G img p ≡ None → BlankTail G img p
     no_tail e = go (blank_at img (scan_of G img p).end (end_at G p - (scan_of G img p).end)) refl e
       where
         go : (b : Bool) → blank_at img (scan_of G img p).end (end_at G p - (scan_of G img p).end) ≡ b
-            → pick b Nothing (TailNotBlank p (not_ff (scan_of G img p).end (take (end_at G p - (scan_of G img p).end) (drop (scan_of G img p).end img)))) ≡ Nothing → BlankTail G img p
+            → pick b None (Some (TailNotBlank p (not_ff (scan_of G img p).end (take (end_at G p - (scan_of G img p).end) (drop (scan_of G img p).end img))))) ≡ None → BlankTail G img p
         go true t e =
             ff_all (take (end_at G p - (scan_of G img p).end) (drop (scan_of G img p).end img)) t ∙ ap (λ (m : ℕ). replicate m 255) tail_length
-        go false t e = let z : ◌≡◌ {A = ℕ} 0 1 = cc in absurd (omega arith)
+        go false t e = cc
 
-    tail_no : BlankTail G img p → tail_fault G img p ≡ Nothing
+    tail_no : BlankTail G img p → tail_fault G img p ≡ None
     tail_no e = rw (e, all_ff_lem (end_at G p - (scan_of G img p).end))
 
     -- the pages after p, parted
@@ -162,8 +158,7 @@ module _ (G : Geo) (img : List ℕ) (ok : Fit G img) where
     ring_sound [] (c ∷ cs) e ho hc sp sn nd bt =
         let n = (turned G p c cs hp e).0 in
         let s : state G img (next G p) ≡ Closed = rw n hc.0 in
-        let z : ◌≡◌ {A = ℕ} 0 1 = cc in
-        absurd (omega arith)
+        cc
     ring_sound (o ∷ os) cs e ho hc sp sn nd bt =
         used_ring p o os cs (record {
           in_ring = hp;
@@ -176,14 +171,14 @@ module _ (G : Geo) (img : List ℕ) (ok : Fit G img) where
         })
 
     used_sound : ((q : ℕ) → q < G.pages → same Corrupted (state G img q) ≡ false) → state G img p ≡ PartialOpen
-        → ((q : ℕ) → q < p → same PartialOpen (state G img q) ≡ false) → used_fault G img p ≡ Nothing → Sound G img
+        → ((q : ℕ) → q < p → same PartialOpen (state G img q) ≡ false) → used_fault G img p ≡ None → Sound G img
     unfolding used_fault
     used_sound nc sp before e =
         let s = second_partial G img p in
         let a = open_apart G img p in
-        let t₁ = passed (is_page G s) (SecondPartialOpen s) _ (λ x. let z : ◌≡◌ {A = ℕ} 0 1 = cc in omega arith) e in
-        let t₂ = passed (not (same Open (state G img (next G p)))) (NextNotOpen (next G p)) _ (λ x. let z : ◌≡◌ {A = ℕ} 0 1 = cc in omega arith) t₁.1 in
-        let t₃ = passed (is_page G a) (OpenApart a) _ (λ x. let z : ◌≡◌ {A = ℕ} 0 1 = cc in omega arith) t₂.1 in
+        let t₁ = passed (is_page G s) (SecondPartialOpen s) _ e in
+        let t₂ = passed (not (same Open (state G img (next G p)))) (NextNotOpen (next G p)) _ t₁.1 in
+        let t₃ = passed (is_page G a) (OpenApart a) _ t₂.1 in
         let t₄ = no-dirty (tail_fault G img p) t₃.1 in
         let np = others (λ q. same PartialOpen (state G img q) ≡ false) before (no_second t₁.0) in
         let two = all_rest G (λ q. (state G img q ≡ Open) ⊎ (state G img q ≡ Closed)) p hp (λ q h ne. two_states (state G img q) (np q h ne) (nc q h)) in
@@ -196,7 +191,7 @@ module _ (G : Geo) (img : List ℕ) (ok : Fit G img) where
           rest_all G P p hp
           (rw S.rest_is (All-append P (o ∷ os) cs (All-map (Unused G img) P (o ∷ os) f S.opens) (All-map (λ q. state G img q ≡ Closed) P cs g S.closeds)))
 
-      sound_used : page_fault G img ≡ Nothing
+      sound_used : page_fault G img ≡ None
       unfolding page_fault used_fault
       sound_used =
           let n = le-ltb G.pages G.pages (omega arith) in
@@ -220,15 +215,15 @@ module _ (G : Geo) (img : List ℕ) (ok : Fit G img) where
 
   -- ---- both
 
-  pub fault_sound : page_fault G img ≡ Nothing → Sound G img
+  pub fault_sound : page_fault G img ≡ None → Sound G img
   unfolding page_fault
   fault_sound e =
       let c = first_page G Corrupted img in
-      let t = passed (is_page G c) (CorruptedPage c) _ (λ x. let z : ◌≡◌ {A = ℕ} 0 1 = cc in omega arith) e in
+      let t = passed (is_page G c) (CorruptedPage c) _ e in
       go (is_page G (first_page G PartialOpen img)) refl (no-page Corrupted t.0) t.1
     where
       go : (b : Bool) → is_page G (first_page G PartialOpen img) ≡ b → ((q : ℕ) → q < G.pages → same Corrupted (state G img q) ≡ false)
-          → pick b (used_fault G img (first_page G PartialOpen img)) (blank_fault G img) ≡ Nothing → Sound G img
+          → pick b (used_fault G img (first_page G PartialOpen img)) (blank_fault G img) ≡ None → Sound G img
       go true q nc e =
           let f : ℕ → Bool = λ x. same PartialOpen (state G img x) in
           let w = with_by G PartialOpen img (all_pages G) in
@@ -236,6 +231,6 @@ module _ (G : Geo) (img : List ℕ) (ok : Fit G img) where
           used_sound (first_page G PartialOpen img) (ltb-true _ G.pages q) nc (is_partial _ F.passes) (λ x h. F.before x (omega arith) h) e
       go false q nc e = blank_sound nc (no-page PartialOpen q) e
 
-  pub sound_fault : Sound G img → page_fault G img ≡ Nothing
+  pub sound_fault : Sound G img → page_fault G img ≡ None
   sound_fault (blank_ring u) = sound_blank u
   sound_fault (used_ring p o os cs S) = sound_used p S.in_ring o os cs S

@@ -12,21 +12,21 @@ use Rattle.inspect.specs.Faults.{seen, open_after, first_by}
 
 pub two_states : (s : PageState) → same PartialOpen s ≡ false → same Corrupted s ≡ false → (s ≡ Open) ⊎ (s ≡ Closed)
 two_states Open p c = inl refl
-two_states PartialOpen p c = let z : ◌≡◌ {A = ℕ} 0 1 = cc in absurd (omega arith)
+two_states PartialOpen p c = cc
 two_states Closed p c = inr refl
-two_states Corrupted p c = let z : ◌≡◌ {A = ℕ} 0 1 = cc in absurd (omega arith)
+two_states Corrupted p c = cc
 
 pub is_open : (s : PageState) → same Open s ≡ true → s ≡ Open
 is_open Open e = refl
-is_open PartialOpen e = let z : ◌≡◌ {A = ℕ} 0 1 = cc in absurd (omega arith)
-is_open Closed e = let z : ◌≡◌ {A = ℕ} 0 1 = cc in absurd (omega arith)
-is_open Corrupted e = let z : ◌≡◌ {A = ℕ} 0 1 = cc in absurd (omega arith)
+is_open PartialOpen e = cc
+is_open Closed e = cc
+is_open Corrupted e = cc
 
 pub is_partial : (s : PageState) → same PartialOpen s ≡ true → s ≡ PartialOpen
-is_partial Open e = let z : ◌≡◌ {A = ℕ} 0 1 = cc in absurd (omega arith)
+is_partial Open e = cc
 is_partial PartialOpen e = refl
-is_partial Closed e = let z : ◌≡◌ {A = ℕ} 0 1 = cc in absurd (omega arith)
-is_partial Corrupted e = let z : ◌≡◌ {A = ℕ} 0 1 = cc in absurd (omega arith)
+is_partial Closed e = cc
+is_partial Corrupted e = cc
 
 -- ---- blank bytes
 
@@ -40,7 +40,7 @@ ff_all (x ∷ xs) e = go (eqb x 255) refl e (ff_all xs)
   where
     go : (b : Bool) → eqb x 255 ≡ b → both b (all_ff xs) ≡ true → (all_ff xs ≡ true → xs ≡ replicate (length xs) 255) → x ∷ xs ≡ 255 ∷ replicate (length xs) 255
     go true q e ih = let h : x ≡ 255 = eqb-true x 255 q in let t = ih e in cc
-    go false q e ih = let z : ◌≡◌ {A = ℕ} 0 1 = cc in absurd (omega arith)
+    go false q e ih = cc
 
 -- ---- the first page that passes a test
 

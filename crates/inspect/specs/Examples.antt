@@ -1,11 +1,12 @@
 -- Each fault, and tallies, by computation.
-use Rattle.std.specs.Prelude.{◌≡◌, refl, ℕ, List, [], ◌∷◌, ◌++◌, replicate}
+use Rattle.std.specs.Prelude.{◌≡◌, refl, ℕ, List, [], ◌∷◌, ◌++◌, None, Some, replicate}
 use Rattle.rules.specs.declared.{PageState.TheVariants.PartialOpen, PageState.TheVariants.Closed}
+use Rattle.rules.specs.declared.Answer.TheVariants.{EndRangeNotAtPageBoundary, RangeTooSmall, PagesTooSmall, Geometry}
 use Rattle.rules.specs.Bytes.{zeros_in, zero_bits, round_up}
 use Rattle.rules.specs.Items.{read_by, read, size, pad, encode, encode_data, scan}
 use Rattle.rules.specs.Pages.{state, scan_of, ring_up}
 use Rattle.rules.specs.Answers.{refusal}
-use Rattle.inspect.specs.declared.{Fault.TheVariants.Nothing, Fault.TheVariants.Refused, Fault.TheVariants.CorruptedPage, Fault.TheVariants.NoPartialOpen, Fault.TheVariants.SecondPartialOpen, Fault.TheVariants.NextNotOpen, Fault.TheVariants.OpenApart, Fault.TheVariants.DataNotBlank, Fault.TheVariants.TailNotBlank}
+use Rattle.inspect.specs.declared.{Fault.TheVariants.Refused, Fault.TheVariants.CorruptedPage, Fault.TheVariants.NoPartialOpen, Fault.TheVariants.SecondPartialOpen, Fault.TheVariants.NextNotOpen, Fault.TheVariants.OpenApart, Fault.TheVariants.DataNotBlank, Fault.TheVariants.TailNotBlank}
 use Rattle.inspect.specs.Faults.{blank_fault, used_fault, page_fault, first_fault}
 use Rattle.inspect.specs.Tallies.{no_tally, tally_by, tally_of}
 
@@ -30,19 +31,19 @@ abbrev late : List ℕ
 late = replicate 8 255 ++ 254 ∷ replicate 15 255
 
 -- sound, refused, and each further fault; where two are there the first is told
-faults : (first_fault 4 32 (opened ++ opened ++ opened ++ opened) ≡ Nothing)
-    × (first_fault 4 32 (closed ++ partial ++ opened ++ closed) ≡ Nothing)
-    × (first_fault 4 48 (opened ++ opened ++ opened ++ opened) ≡ Refused 1)
-    × (first_fault 4 32 broken ≡ Refused 2)
-    × (first_fault 4 0 [] ≡ Refused 3)
-    × (first_fault 4 22 (replicate 44 0) ≡ Refused 4)
-    × (first_fault 4 32 (closed ++ broken ++ partial ++ broken) ≡ CorruptedPage 1)
-    × (first_fault 4 32 (page 255 late 255 ++ opened ++ closed ++ closed) ≡ NoPartialOpen 2)
-    × (first_fault 4 32 (closed ++ partial ++ closed ++ partial) ≡ SecondPartialOpen 3)
-    × (first_fault 4 32 (closed ++ opened ++ opened ++ partial) ≡ NextNotOpen 0)
-    × (first_fault 4 32 (opened ++ partial ++ page 255 late 255 ++ closed) ≡ OpenApart 0)
-    × (first_fault 4 32 (closed ++ page 0 late 255 ++ page 255 late 255 ++ closed) ≡ DataNotBlank 2 76)
-    × (first_fault 4 32 (closed ++ page 0 late 255 ++ opened ++ closed) ≡ TailNotBlank 1 44)
+faults : (first_fault 4 32 (opened ++ opened ++ opened ++ opened) ≡ None)
+    × (first_fault 4 32 (closed ++ partial ++ opened ++ closed) ≡ None)
+    × (first_fault 4 48 (opened ++ opened ++ opened ++ opened) ≡ Some (Refused EndRangeNotAtPageBoundary))
+    × (first_fault 4 32 broken ≡ Some (Refused RangeTooSmall))
+    × (first_fault 4 0 [] ≡ Some (Refused PagesTooSmall))
+    × (first_fault 4 22 (replicate 44 0) ≡ Some (Refused Geometry))
+    × (first_fault 4 32 (closed ++ broken ++ partial ++ broken) ≡ Some (CorruptedPage 1))
+    × (first_fault 4 32 (page 255 late 255 ++ opened ++ closed ++ closed) ≡ Some (NoPartialOpen 2))
+    × (first_fault 4 32 (closed ++ partial ++ closed ++ partial) ≡ Some (SecondPartialOpen 3))
+    × (first_fault 4 32 (closed ++ opened ++ opened ++ partial) ≡ Some (NextNotOpen 0))
+    × (first_fault 4 32 (opened ++ partial ++ page 255 late 255 ++ closed) ≡ Some (OpenApart 0))
+    × (first_fault 4 32 (closed ++ page 0 late 255 ++ page 255 late 255 ++ closed) ≡ Some (DataNotBlank 2 76))
+    × (first_fault 4 32 (closed ++ page 0 late 255 ++ opened ++ closed) ≡ Some (TailNotBlank 1 44))
 unfolding first_fault refusal page_fault used_fault blank_fault state zeros_in zero_bits ring_up scan_of scan read read_by size round_up
 faults = (refl, refl, refl, refl, refl, refl, refl, refl, refl, refl, refl, refl, refl)
 

@@ -1,13 +1,14 @@
 -- The first reason why an image is not sound.
-use Rattle.std.specs.Prelude.{ℕ, suc, ◌-◌, Bool, true, false, not, List, [], ◌∷◌, length, take, drop, eqb}
+use Rattle.std.specs.Prelude.{ℕ, suc, ◌-◌, Bool, true, false, not, List, [], ◌∷◌, Option, None, Some, length, take, drop, eqb}
 use Rattle.rules.specs.declared.{Geo.Geo, PageState.PageState, PageState.TheVariants.Open, PageState.TheVariants.PartialOpen, PageState.TheVariants.Closed, PageState.TheVariants.Corrupted}
 use Rattle.rules.specs.Bytes.{pick, both}
 use Rattle.rules.specs.Pages.{same, up_from, blank_at, data_at, end_at, area_len, area, state, scan_of, next, all_pages, ring_up, first_with, first_page, is_page}
 use Rattle.rules.specs.Answers.{number, refusal}
 use Rattle.rules.specs.Calls.{geo_of}
-use Rattle.inspect.specs.declared.{Fault.Fault, Fault.TheVariants.Nothing, Fault.TheVariants.Refused, Fault.TheVariants.CorruptedPage, Fault.TheVariants.NoPartialOpen, Fault.TheVariants.SecondPartialOpen, Fault.TheVariants.NextNotOpen, Fault.TheVariants.OpenApart, Fault.TheVariants.DataNotBlank, Fault.TheVariants.TailNotBlank}
+use Rattle.inspect.specs.declared.{Fault.Fault, Fault.TheVariants.Refused, Fault.TheVariants.CorruptedPage, Fault.TheVariants.NoPartialOpen, Fault.TheVariants.SecondPartialOpen, Fault.TheVariants.NextNotOpen, Fault.TheVariants.OpenApart, Fault.TheVariants.DataNotBlank, Fault.TheVariants.TailNotBlank}
 
--- the place of the first of these bytes that is not 0xFF, the first of them being at place a; the place after them if there is none
+-- the place of the first of these bytes that is not 0xFF, the first of them being at place a;
+-- the place after them if there is none
 abbrev pub not_ff : ℕ → List ℕ → ℕ
 not_ff a [] = a
 not_ff a (b ∷ bs) = let r = not_ff (suc a) bs in pick (eqb b 255) r a
@@ -54,41 +55,42 @@ module _ (G : Geo) where
   dirty_fault img q = DataNotBlank q (not_ff (data_at G q) (area G img q))
 
   -- the first such byte of an Open page, else r
-  abbrev pub data_fault : List ℕ → Fault → Fault
+  abbrev pub data_fault : List ℕ → Option Fault → Option Fault
   data_fault img r =
       let d = first_dirty img in
-      pick (is_page G d) (dirty_fault img d) r
+      pick (is_page G d) (Some (dirty_fault img d)) r
 
   -- the first byte after the scan's end of page p that is not 0xFF
-  abbrev pub tail_fault : List ℕ → ℕ → Fault
+  abbrev pub tail_fault : List ℕ → ℕ → Option Fault
   tail_fault img p =
       let a = (scan_of G img p).end in
-      pick (blank_at img a (end_at G p - a)) Nothing (TailNotBlank p (not_ff a (take (end_at G p - a) (drop a img))))
+      pick (blank_at img a (end_at G p - a)) None
+      (Some (TailNotBlank p (not_ff a (take (end_at G p - a) (drop a img)))))
 
   -- no page is PartialOpen
-  unfoldable pub blank_fault : List ℕ → Fault
+  unfoldable pub blank_fault : List ℕ → Option Fault
   blank_fault img =
       let c = first_page G Closed img in
-      pick (is_page G c) (NoPartialOpen c) (data_fault img Nothing)
+      pick (is_page G c) (Some (NoPartialOpen c)) (data_fault img None)
 
   -- page p is the first PartialOpen one
-  unfoldable pub used_fault : List ℕ → ℕ → Fault
+  unfoldable pub used_fault : List ℕ → ℕ → Option Fault
   used_fault img p =
       let s = second_partial img p in
       let a = open_apart img p in
-      pick (is_page G s) (SecondPartialOpen s)
-      (pick (not (same Open (state G img (next G p)))) (NextNotOpen (next G p))
-      (pick (is_page G a) (OpenApart a) (data_fault img (tail_fault img p))))
+      pick (is_page G s) (Some (SecondPartialOpen s))
+      (pick (not (same Open (state G img (next G p)))) (Some (NextNotOpen (next G p)))
+      (pick (is_page G a) (Some (OpenApart a)) (data_fault img (tail_fault img p))))
 
   -- the first fault where the sizes are accepted
-  unfoldable pub page_fault : List ℕ → Fault
+  unfoldable pub page_fault : List ℕ → Option Fault
   page_fault img =
       let c = first_page G Corrupted img in
       let p = first_page G PartialOpen img in
-      pick (is_page G c) (CorruptedPage c) (pick (is_page G p) (used_fault img p) (blank_fault img))
+      pick (is_page G c) (Some (CorruptedPage c)) (pick (is_page G p) (used_fault img p) (blank_fault img))
 
 -- the first fault of an image: words of w bytes, pages of E
-unfoldable pub first_fault : ℕ → ℕ → List ℕ → Fault
+unfoldable pub first_fault : ℕ → ℕ → List ℕ → Option Fault
 first_fault w E img =
-    let no = number (refusal w E (length img) 0 0) in
-    pick (eqb no 0) (page_fault (geo_of w E (length img)) img) (Refused no)
+    let no = refusal w E (length img) 0 0 in
+    pick (eqb (number no) 0) (page_fault (geo_of w E (length img)) img) (Some (Refused no))

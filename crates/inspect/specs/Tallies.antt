@@ -46,8 +46,12 @@ tally_by w s a e r = record {
   free = e - r.end;
 }
 
+-- no bytes of a page in a state
+abbrev pub empty : PageState → Tally
+empty s = record { state = s; present = 0; removed = 0; damaged = 0; free = 0 }
+
 abbrev pub no_tally : Tally
-no_tally = record { state = Open; present = 0; removed = 0; damaged = 0; free = 0 }
+no_tally = empty Open
 
 -- the tally of page p: words of w bytes, pages of E
 unfoldable pub tally_of : ℕ → ℕ → List ℕ → ℕ → Tally

@@ -1,21 +1,21 @@
 // What a tool asks of an image: the first reason why it is not sound, and what the bytes of a page hold.
 #![tactic(auto)]
 
-ghost use Rattle.std.specs.Prelude.{◌≡◌, ◌+◌, ◌^◌, ◌≤◌, ◌<◌, length};
-ghost use Rattle.rules.specs.Held.{Held};
+ghost use Rattle.std.specs.Prelude.{◌≡◌, ◌+◌, ◌^◌, ◌≤◌, ◌<◌, Some, None, true, false, MatchOption, length};
+ghost use Rattle.rules.specs.Bytes.{pick, all_ff};
 ghost use Rattle.rules.specs.Pages.{data_at, end_at, state, scan_of};
 ghost use Rattle.items.specs.Code.{part, scan_in};
-ghost use Rattle.inspect.specs.Faults.{not_ff, apart, seen, second_partial, open_apart, dirty, first_dirty, dirty_fault, tail_fault, blank_fault, used_fault, page_fault, first_fault};
-ghost use Rattle.inspect.specs.Tallies.{more, tally_by, tally_of};
+ghost use Rattle.inspect.specs.Faults.{not_ff, second_partial, open_apart, dirty, dirty_fault, data_fault, tail_fault, blank_fault, used_fault, page_fault, first_fault};
+ghost use Rattle.inspect.specs.Tallies.{empty, tally_by, tally_of};
 
 use items::Read;
-use rules::{Geo, Kind, PageState};
+use ring::Pages;
+use rules::{Answer, Kind, PageState};
 
-// The first reason why an image is not sound, in this order.
-#[derive(Clone, Copy)]
+// A reason why an image is not sound. The first that holds is told, in this order.
+#[derive(Clone, Copy, PartialEq, Eq)]
 pub enum Fault {
-    Nothing, // the image is sound
-    Refused(u32), // the sizes are refused with this answer number, 1 to 4
+    Refused(Answer), // the sizes are refused with this answer
     CorruptedPage(usize), // the first page whose end word alone is marked
     NoPartialOpen(usize), // no page is PartialOpen, and this page, the first such one, is Closed
     SecondPartialOpen(usize), // the first page after the first PartialOpen one, by number, that is PartialOpen too
@@ -25,9 +25,9 @@ pub enum Fault {
     TailNotBlank(usize, usize), // page and place: the first byte after the PartialOpen page's scan that is not 0xFF
 }
 
-// The bytes of a page's data area: those of Present items, of Removed ones, of Damaged ones and skipped words, and those after
-// the scan's end.
-#[derive(Clone, Copy)]
+// The bytes of a page's data area: those of Present items, of Removed ones, of Damaged ones and skipped words,
+// and those after the scan's end.
+#[derive(Clone, Copy, PartialEq, Eq)]
 pub struct Tally {
     pub state: PageState,
     pub present: usize,
@@ -36,231 +36,167 @@ pub struct Tally {
     pub free: usize,
 }
 
-// The first place from a up to e whose byte is not 0xFF; e if there is none.
-fn first_not_ff(img: &[u8], a: usize, e: usize) -> usize
+// The first place from a up to e whose byte is not 0xFF.
+fn first_not_ff(img: &[u8], a: usize, e: usize) -> Option<usize>
     requires { (a ≤ e) × (e ≤ length img.now) }
-    ensures { result ≡ not_ff a (part img.now a e) }
+    ensures { MatchOption result (all_ff (part img.now a e) ≡ true)
+        (λ at. (all_ff (part img.now a e) ≡ false) × (at ≡ not_ff a (part img.now a e))) }
 {
-    let mut i = a;
-    while i < e {
-        if img[i] != 255 {
-            return i;
+    let passed = img[a..e].iter().position(|&byte| byte != 255)?;
+    Some(a + passed)
+}
+
+// The first PartialOpen page after page p, by number.
+fn second_partial(pages: &Pages<'_>, p: usize) -> Option<usize>
+    requires { p < pages.now.geo.pages }
+    ensures { MatchOption result (second_partial pages.now.geo pages.now.img.now p ≡ pages.now.geo.pages)
+        (λ q. (q < pages.now.geo.pages) × (q ≡ second_partial pages.now.geo pages.now.img.now p)) }
+{
+    for q in p + 1..pages.geo.pages {
+        if pages.page_is(q, PageState::PartialOpen) {
+            return Some(q);
         }
-        i += 1;
     }
-    e
+    None
 }
 
-// The first PartialOpen page after page p, by number; the number of pages if there is none.
-fn second_partial(img: &[u8], g: Geo, p: usize) -> usize
-    requires { Held g (length img.now) × (p < g.pages) }
-    ensures { result ≡ second_partial g img.now p }
-{
-    let n = g.pages;
-    let mut q = p + 1;
-    while q < n {
-        if ring::page_is(img, g, q, PageState::PartialOpen) {
-            return q;
-        }
-        q += 1;
-    }
-    n
-}
-
-// Is a page in this state an Open one after a Closed one?
-fn apart(closed: bool, s: PageState) -> bool
-    ensures { result ≡ apart closed s }
-{
-    if closed {
-        return ring::is(s, PageState::Open);
-    }
-    false
-}
-
-// Has a Closed page been seen, with this one?
-fn seen(closed: bool, s: PageState) -> bool
-    ensures { result ≡ seen closed s }
-{
-    if closed {
-        return true;
-    }
-    ring::is(s, PageState::Closed)
-}
-
-// The first Open page after a Closed one, in the ring from page p on; the number of pages if there is none.
-fn first_open_apart(img: &[u8], g: Geo, p: usize) -> usize
-    requires { Held g (length img.now) × (p < g.pages) }
-    ensures { result ≡ open_apart g img.now p }
+// The first Open page after a Closed one, in the ring from page p on.
+fn first_open_apart(pages: &Pages<'_>, p: usize) -> Option<usize>
+    requires { p < pages.now.geo.pages }
+    ensures { MatchOption result (open_apart pages.now.geo pages.now.img.now p ≡ pages.now.geo.pages)
+        (λ q. (q < pages.now.geo.pages) × (q ≡ open_apart pages.now.geo pages.now.img.now p)) }
 {
     let mut q = p;
-    let mut m = g.pages;
     let mut closed = false;
-    while 0 < m {
-        let s = ring::state(img, g, q);
-        if apart(closed, s) {
-            return q;
+    for _ in 0..pages.geo.pages {
+        let state = pages.state(q);
+        if closed && state == PageState::Open {
+            return Some(q);
         }
-        closed = seen(closed, s);
-        q = ring::next(g, q);
-        m -= 1;
+        closed |= state == PageState::Closed;
+        q = pages.next(q);
     }
-    g.pages
+    None
 }
 
-// Is page q Open, and not all of its data 0xFF?
-fn dirty(img: &[u8], g: Geo, q: usize) -> bool
-    requires { Held g (length img.now) × (q < g.pages) }
-    ensures { result ≡ dirty g img.now q }
+// The fault of page q where it is Open and a byte of its data is not 0xFF.
+fn dirty_fault(pages: &Pages<'_>, q: usize) -> Option<Fault>
+    requires { q < pages.now.geo.pages }
+    ensures { let G = pages.now.geo in
+        result ≡ pick (dirty G pages.now.img.now q) (Some (dirty_fault G pages.now.img.now q)) None }
 {
-    if ring::page_is(img, g, q, PageState::Open) {
-        let a = ring::data_at(g, q, img.len());
-        let e = ring::end_at(g, q, img.len());
-        if words::all_ff(&img[a..e]) {
-            return false;
-        }
-        return true;
+    if !pages.page_is(q, PageState::Open) {
+        return None;
     }
-    false
+    let place = first_not_ff(pages.img, pages.data_at(q), pages.end_at(q))?;
+    Some(Fault::DataNotBlank(q, place))
 }
 
-// The first such page; the number of pages if there is none.
-fn first_dirty(img: &[u8], g: Geo) -> usize
-    requires { Held g (length img.now) }
-    ensures { (result ≡ first_dirty g img.now) × (result ≤ g.pages) }
+// The first such fault.
+fn data_fault(pages: &Pages<'_>) -> Option<Fault>
+    ensures { result ≡ data_fault pages.now.geo pages.now.img.now None }
 {
-    let n = g.pages;
-    let mut q: usize = 0;
-    while q < n {
-        if dirty(img, g, q) {
-            return q;
+    for q in 0..pages.geo.pages {
+        if let Some(fault) = dirty_fault(pages, q) {
+            return Some(fault);
         }
-        q += 1;
     }
-    n
-}
-
-// The fault of such a page.
-fn data_fault(img: &[u8], g: Geo, q: usize) -> Fault
-    requires { Held g (length img.now) × (q < g.pages) }
-    ensures { result ≡ dirty_fault g img.now q }
-{
-    let a = ring::data_at(g, q, img.len());
-    let e = ring::end_at(g, q, img.len());
-    Fault::DataNotBlank(q, first_not_ff(img, a, e))
+    None
 }
 
 // The fault after the scan's end of page p.
-fn tail_fault(img: &[u8], g: Geo, p: usize) -> Fault
-    requires { Held g (length img.now) × (p < g.pages) }
-    ensures { result ≡ tail_fault g img.now p }
+fn tail_fault(pages: &Pages<'_>, p: usize) -> Option<Fault>
+    requires { p < pages.now.geo.pages }
+    ensures { result ≡ tail_fault pages.now.geo pages.now.img.now p }
 {
-    let a = ring::scan_end(img, g, p);
-    let e = ring::end_at(g, p, img.len());
-    if words::all_ff(&img[a..e]) {
-        return Fault::Nothing;
-    }
-    Fault::TailNotBlank(p, first_not_ff(img, a, e))
+    let place = first_not_ff(pages.img, pages.scan_end(p), pages.end_at(p))?;
+    Some(Fault::TailNotBlank(p, place))
 }
 
 // The first fault of an image with no PartialOpen page.
-fn blank_fault(img: &[u8], g: Geo) -> Fault
-    requires { Held g (length img.now) }
-    ensures { result ≡ blank_fault g img.now }
+#[tactic(auto, unfolding(crate::specs::Faults::blank_fault))]
+fn blank_fault(pages: &Pages<'_>) -> Option<Fault>
+    ensures { result ≡ blank_fault pages.now.geo pages.now.img.now }
 {
-    let n = g.pages;
-    let c = ring::first(img, g, PageState::Closed);
-    if c < n {
-        return Fault::NoPartialOpen(c);
+    if let Some(closed) = pages.first(PageState::Closed) {
+        return Some(Fault::NoPartialOpen(closed));
     }
-    let d = first_dirty(img, g);
-    if d < n {
-        return data_fault(img, g, d);
-    }
-    Fault::Nothing
+    data_fault(pages)
 }
 
 // The first fault of an image whose first PartialOpen page is p.
-fn used_fault(img: &[u8], g: Geo, p: usize) -> Fault
-    requires { Held g (length img.now) × (p < g.pages) }
-    ensures { result ≡ used_fault g img.now p }
+#[tactic(auto, unfolding(crate::specs::Faults::used_fault))]
+fn used_fault(pages: &Pages<'_>, p: usize) -> Option<Fault>
+    requires { p < pages.now.geo.pages }
+    ensures { result ≡ used_fault pages.now.geo pages.now.img.now p }
 {
-    let n = g.pages;
-    let s = second_partial(img, g, p);
-    if s < n {
-        return Fault::SecondPartialOpen(s);
+    if let Some(second) = second_partial(pages, p) {
+        return Some(Fault::SecondPartialOpen(second));
     }
-    let o = ring::next(g, p);
-    if ring::page_is(img, g, o, PageState::Open) {
-        let a = first_open_apart(img, g, p);
-        if a < n {
-            return Fault::OpenApart(a);
-        }
-        let d = first_dirty(img, g);
-        if d < n {
-            return data_fault(img, g, d);
-        }
-        return tail_fault(img, g, p);
+    let next = pages.next(p);
+    if !pages.page_is(next, PageState::Open) {
+        return Some(Fault::NextNotOpen(next));
     }
-    Fault::NextNotOpen(o)
+    if let Some(open) = first_open_apart(pages, p) {
+        return Some(Fault::OpenApart(open));
+    }
+    if let Some(fault) = data_fault(pages) {
+        return Some(fault);
+    }
+    tail_fault(pages, p)
 }
 
 // The first fault of an image whose sizes are accepted.
-fn page_fault(img: &[u8], g: Geo) -> Fault
-    requires { Held g (length img.now) }
-    ensures { result ≡ page_fault g img.now }
+#[tactic(auto, unfolding(crate::specs::Faults::page_fault))]
+fn page_fault(pages: &Pages<'_>) -> Option<Fault>
+    ensures { result ≡ page_fault pages.now.geo pages.now.img.now }
 {
-    let n = g.pages;
-    let c = ring::first(img, g, PageState::Corrupted);
-    if c < n {
-        return Fault::CorruptedPage(c);
+    if let Some(corrupted) = pages.first(PageState::Corrupted) {
+        return Some(Fault::CorruptedPage(corrupted));
     }
-    let p = ring::first(img, g, PageState::PartialOpen);
-    if p < n {
-        return used_fault(img, g, p);
+    match pages.first(PageState::PartialOpen) {
+        Some(p) => used_fault(pages, p),
+        None => blank_fault(pages),
     }
-    blank_fault(img, g)
 }
 
-// The first fault of an image, for any sizes; Nothing tells that it is sound.
-pub fn first_fault(img: &[u8], page_size: usize) -> Fault
+// The first fault of an image, for any sizes; a sound one has none.
+#[tactic(auto, unfolding(crate::specs::Faults::first_fault))]
+pub fn first_fault(img: &[u8], page_size: usize) -> Option<Fault>
     ensures { result ≡ first_fault 4 page_size img.now }
 {
-    let no = answer::number(answer::refusal(4, page_size, img.len(), 0, 0));
-    if no != 0 {
-        return Fault::Refused(no);
+    match answer::geometry(4, page_size, img.len(), 0, 0) {
+        Ok(geo) => page_fault(&Pages { img, geo }),
+        Err(refusal) => Some(Fault::Refused(refusal)),
     }
-    let g = answer::geometry(4, page_size, img.len());
-    page_fault(img, g)
 }
 
-// A tally with n more bytes of this kind.
-fn add(t: Tally, k: Kind, n: usize) -> Tally
-    requires { t.present + t.removed + t.damaged + n < 2 ^ 64 }
-    ensures { result ≡ more t k n }
-{
-    let s = t.state;
-    match k {
-        Kind::Present => Tally {
-            state: s,
-            present: t.present + n,
-            removed: t.removed,
-            damaged: t.damaged,
-            free: t.free,
-        },
-        Kind::Removed => Tally {
-            state: s,
-            present: t.present,
-            removed: t.removed + n,
-            damaged: t.damaged,
-            free: t.free,
-        },
-        Kind::Damaged => Tally {
-            state: s,
-            present: t.present,
-            removed: t.removed,
-            damaged: t.damaged + n,
-            free: t.free,
-        },
+impl Tally {
+    ghost use Rattle.inspect.specs.Tallies.{more};
+
+    // No bytes of a page in this state.
+    fn new(state: PageState) -> Tally
+        ensures { result ≡ empty state }
+    {
+        Tally {
+            state,
+            present: 0,
+            removed: 0,
+            damaged: 0,
+            free: 0,
+        }
+    }
+
+    // Counts n more bytes of this kind.
+    fn add(&mut self, kind: Kind, n: usize)
+        requires { self.old.present + self.old.removed + self.old.damaged + n < 2 ^ 64 }
+        ensures { self.new ≡ more self.old kind n }
+    {
+        match kind {
+            Kind::Present => self.present += n,
+            Kind::Removed => self.removed += n,
+            Kind::Damaged => self.damaged += n,
+        }
     }
 }
 
@@ -270,68 +206,46 @@ fn tally_in(img: &[u8], a: usize, e: usize, w: usize, state: PageState) -> Tally
     ensures { result ≡ tally_by w state a e (scan_in w img.now a e) }
 {
     let mut at = a;
-    let mut t = Tally {
-        state,
-        present: 0,
-        removed: 0,
-        damaged: 0,
-        free: 0,
-    };
+    let mut tally = Tally::new(state);
     while at < e {
-        let r = items::look_at(img, at, e, w);
-        match r {
-            Read::End => {
-                return Tally {
-                    state,
-                    present: t.present,
-                    removed: t.removed,
-                    damaged: t.damaged,
-                    free: e - at,
-                };
-            }
+        match items::look_at(img, at, e, w) {
+            Read::End => break,
             Read::Skip => {
-                t = add(t, Kind::Damaged, w);
+                tally.add(Kind::Damaged, w);
                 at += w;
-                continue;
             }
             Read::Item(len) => {
                 let n = words::size(w, len);
-                t = add(t, items::kind(&img[at..e], len), n);
+                tally.add(items::kind(&img[at..e], len), n);
                 at += n;
             }
         }
     }
-    t
+    tally.free = e - at;
+    tally
 }
 
 // The tally of page p.
-fn tally_at(img: &[u8], g: Geo, p: usize) -> Tally
-    requires { Held g (length img.now) × (p < g.pages) }
-    ensures { result ≡ tally_by g.word (state g img.now p) (data_at g p) (end_at g p) (scan_of g img.now p) }
+#[tactic(auto, using(ring::proofs::Laws::scan_is))]
+fn tally_at(pages: &Pages<'_>, p: usize) -> Tally
+    requires { p < pages.now.geo.pages }
+    ensures { let G = pages.now.geo in
+        let img = pages.now.img.now in
+        result ≡ tally_by G.word (state G img p) (data_at G p) (end_at G p) (scan_of G img p) }
 {
-    let s = ring::state(img, g, p);
-    let a = ring::data_at(g, p, img.len());
-    let e = ring::end_at(g, p, img.len());
-    tally_in(img, a, e, g.word, s)
+    let start = pages.data_at(p);
+    let end = pages.end_at(p);
+    tally_in(pages.img, start, end, pages.geo.word, pages.state(p))
 }
 
-// The tally of page p, for any sizes: Open and zeros where they are refused, or there is no page p.
+// The tally of page p, for any sizes. No Option, since the call can't fail:
+// where the sizes are refused, or there is no page p, the tally is Open and zeros.
+#[tactic(auto, unfolding(crate::specs::Tallies::tally_of))]
 pub fn tally_page(img: &[u8], page_size: usize, p: usize) -> Tally
     ensures { result ≡ tally_of 4 page_size img.now p }
 {
-    let none = Tally {
-        state: PageState::Open,
-        present: 0,
-        removed: 0,
-        damaged: 0,
-        free: 0,
-    };
-    if answer::number(answer::refusal(4, page_size, img.len(), 0, 0)) != 0 {
-        return none;
+    match answer::geometry(4, page_size, img.len(), 0, 0) {
+        Ok(geo) if p < geo.pages => tally_at(&Pages { img, geo }, p),
+        _ => Tally::new(PageState::Open),
     }
-    let g = answer::geometry(4, page_size, img.len());
-    if g.pages <= p {
-        return none;
-    }
-    tally_at(img, g, p)
 }

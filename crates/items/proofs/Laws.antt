@@ -9,18 +9,18 @@ use lib.ListN.{length, take, drop, length-drop}
 use lib.Seq.{length-take-le, drop-drop}
 use borrow.Author.Tests.{ne_eqb, eq-eqb}
 use Rattle.rules.specs.declared.Kind.TheVariants.{Present, Damaged}
-use Rattle.rules.specs.Bytes.{pick, zeros, of_le}
+use Rattle.rules.specs.Bytes.{pick, both, zeros, of_le}
 use Rattle.laws.specs.Splice.{drop-take}
 use Rattle.rules.specs.Items.{Entry, stop, skip, item, Item, read, item_of, is_present, presents, scan, cons_e, size}
-use Rattle.laws.specs.Reading.{present_long, le_size}
+use Rattle.laws.specs.Reading.{le_size}
 use Rattle.laws.specs.Scans.{scan-stop, scan-skip, scan-item, scan_fuel}
 use Rattle.rules.specs.Fetch.{Found, corrupt, missing, found, or_else, last_with}
 use Rattle.items.specs.declared.Read.{Read}
 use Rattle.items.specs.declared.Read.TheVariants.{End, Skip}
 use Rattle.items.specs.declared.Read.TheVariants as rd
-use Rattle.items.specs.declared.Spot.{Spot}
-use Rattle.items.specs.declared.Spot.TheVariants.{Corrupt, Missing, At}
-use Rattle.items.specs.Code.{part, told, or_of, single, scan_in, read_of, Fine, Stays, SpotIn}
+use Rattle.std.specs.Prelude.{Option, None, Some, Result, Ok, Err}
+use Rattle.items.specs.declared.{Spot.Spot, Corrupt.Corrupt}
+use Rattle.items.specs.Code.{part, told, counts, scan_in, read_of, Fine, Stays}
 
 pub long_part : (img : List ℕ) (a e : ℕ) → e ≤ length img → length (part img a e) ≡ e - a
 long_part img a e h = length-take-le (e - a) (drop a img) (rw length-drop (omega arith))
@@ -41,52 +41,36 @@ module _ (s : List ℕ) (L C z : ℕ) (hC : C ≡ of_le (take 4 (drop 4 s))) (n0
       let l : length (take L (drop 8 s)) ≡ L = length-take-le L (drop 8 s) (rw length-drop (omega arith)) in
       rw (← hC, ne_eqb _ _ n0, ← hz', eq-eqb _ _ e, l)
 
--- an item that is Present is as long as its key
-pub kind_long : (s : List ℕ) (L : ℕ) → 8 + L ≤ length s → is_present (item_of s L).kind ≡ true → 4 ≤ L
-kind_long s L h p =
-    let l : length (take L (drop 8 s)) ≡ L = length-take-le L (drop 8 s) (rw length-drop (omega arith)) in
-    omega (arith, present_long (of_le (take 4 (drop 4 s))) (take L (drop 8 s)) p)
-
 -- ---- searches as the code tells them
 
-pub told_or : (x y : Found) → told (or_else x y) ≡ or_of (told x) (told y)
-told_or corrupt y = refl
-told_or missing y = refl
-told_or (found e) y = refl
+-- a search's answer, or else b where it found nothing
+abbrev pub or_best : Result (Option Spot) Corrupt → Option Spot → Result (Option Spot) Corrupt
+or_best (Err e) b = Err e
+or_best (Ok None) b = Ok b
+or_best (Ok (Some s)) b = Ok (Some s)
 
-or_assoc : (x y z : Spot) → or_of (or_of x y) z ≡ or_of x (or_of y z)
-or_assoc Corrupt y z = refl
-or_assoc Missing y z = refl
-or_assoc (At p l) y z = refl
+-- the entry, where it counts for the key
+abbrev one : ℕ → Entry → Option Spot → Option Spot
+one k e b = pick (counts k e.it) (Some (record { at = e.at; len = e.it.len })) b
 
-pub or_missing : (x : Spot) → or_of x Missing ≡ x
-or_missing Corrupt = refl
-or_missing Missing = refl
-or_missing (At p l) = refl
-
-pub last_step : (k : ℕ) (e : Entry) (es : List Entry) (b : Spot)
-    → or_of (told (last_with k (presents (e ∷ es)))) b ≡ or_of (told (last_with k (presents es))) (or_of (told (last_with k (presents (e ∷ [])))) b)
-last_step k e es b = go (is_present e.it.kind)
+or_step : (k : ℕ) (e : Entry) (es : List Entry) (b : Option Spot)
+    → or_best (told (last_with k (presents (e ∷ es)))) b ≡ or_best (told (last_with k (presents es))) (one k e b)
+or_step k e es b = go (is_present e.it.kind)
   where
-    go : (t : Bool) → or_of (told (last_with k (pick t (e ∷ presents es) (presents es)))) b ≡ or_of (told (last_with k (presents es))) (or_of (told (last_with k (pick t (e ∷ []) []))) b)
-    go true = rw (told_or (last_with k (presents es)) (pick (eqb e.it.key k) (found e) missing)) (or_assoc (told (last_with k (presents es))) (told (pick (eqb e.it.key k) (found e) missing)) b)
+    found_first : (x : Found) (t : Bool)
+        → or_best (told (or_else x (pick t (found e) missing))) b
+        ≡ or_best (told x) (pick (both true t) (Some (record { at = e.at; len = e.it.len })) b)
+    found_first corrupt t = refl
+    found_first missing true = refl
+    found_first missing false = refl
+    found_first (found f) t = refl
+
+    go : (p : Bool)
+        → or_best (told (last_with k (pick p (e ∷ presents es) (presents es)))) b
+        ≡ or_best (told (last_with k (presents es)))
+        (pick (both p (eqb e.it.key k)) (Some (record { at = e.at; len = e.it.len })) b)
+    go true = found_first (last_with k (presents es)) (eqb e.it.key k)
     go false = refl
-
--- an item counts nothing for another key, or where it is too short for one
-module _ (s : List ℕ) (at L k : ℕ) (b : Spot) where
-  pub single_other : ((item_of s L).key ≡ k → ⊥) → b ≡ or_of (single s at L k) b
-  single_other n = go (is_present (item_of s L).kind)
-    where
-      go : (t : Bool) → b ≡ or_of (told (last_with k (pick t (record { at = at; it = item_of s L } ∷ []) []))) b
-      go true = rw (ne_eqb (item_of s L).key k n)
-      go false = refl
-
-  pub single_short : L < 4 → 8 + L ≤ length s → b ≡ or_of (single s at L k) b
-  single_short h l = go (is_present (item_of s L).kind) refl
-    where
-      go : (t : Bool) → is_present (item_of s L).kind ≡ t → b ≡ or_of (told (last_with k (pick t (record { at = at; it = item_of s L } ∷ []) []))) b
-      go true e = let x = kind_long s L l e in absurd (omega arith)
-      go false e = refl
 
 -- ---- the scan from a place to the end of the area
 
@@ -132,24 +116,16 @@ module _ (w : ℕ) (hw : 0 < w) (img : List ℕ) (e : ℕ) (he : e ≤ length im
     pub by_item : (L : ℕ) → r ≡ rd.Item L → scan_in w img a e ≡ cons_e (record { at = a; it = item_of (part img a e) L }) (scan_in w img (a + size w L) e)
     by_item L t = in_item a (item_of (part img a e) L) h (sym (rw t at q))
 
-    pub last-item : (k L : ℕ) (b b' X : Spot) → r ≡ rd.Item L → or_of (told (last_with k (presents (scan_in w img a e).items))) b ≡ X
-        → b' ≡ or_of (single (part img a e) a L k) b → or_of (told (last_with k (presents (scan_in w img (a + size w L) e).items))) b' ≡ X
-    last-item k L b b' X t x y =
+    -- the best item so far, b, with one more
+    pub best_step : (k L : ℕ) (b : Option Spot) (X : Result (Option Spot) Corrupt) → r ≡ rd.Item L
+        → or_best (told (last_with k (presents (scan_in w img a e).items))) b ≡ X
+        → or_best (told (last_with k (presents (scan_in w img (a + size w L) e).items)))
+        (pick (counts k (item_of (part img a e) L)) (Some (record { at = a; len = L })) b) ≡ X
+    best_step k L b X t x =
         let x' = rw (by_item L t) at x in
-        rw y (sym (last_step k (record { at = a; it = item_of (part img a e) L }) (scan_in w img (a + size w L) e).items b) ∙ x')
+        sym (or_step k (record { at = a; it = item_of (part img a e) L }) (scan_in w img (a + size w L) e).items b) ∙ x'
 
 pub fine_stays : (w : ℕ) (img : List ℕ) (a e : ℕ) (r : Read) → w ≤ 8 → a ≤ e → e ≤ length img → Fine w (length (part img a e)) r → Stays w a e r
 fine_stays w img a e End h8 h he f = tt
 fine_stays w img a e Skip h8 h he f = omega (arith, long_part img a e he)
 fine_stays w img a e (rd.Item L) h8 h he f = let l = long_part img a e he in (omega arith, omega arith, omega arith)
-
-pub spot_step : (s : List ℕ) (at L k e : ℕ) (b b' : Spot) → 4 ≤ at → at + 8 + L ≤ e → L < 65536 → 8 + L ≤ length s → SpotIn e b → b' ≡ or_of (single s at L k) b → SpotIn e b'
-spot_step s at L k e b b' h₄ h h_l hs i y = rw y (go (is_present (item_of s L).kind) refl)
-  where
-    val : 4 ≤ L → (t : Bool) → SpotIn e (or_of (told (pick t (found (record { at = at; it = item_of s L })) missing)) b)
-    val l true = (h₄, h, l, h_l)
-    val l false = i
-
-    go : (t : Bool) → is_present (item_of s L).kind ≡ t → SpotIn e (or_of (told (last_with k (pick t (record { at = at; it = item_of s L } ∷ []) []))) b)
-    go true q = val (kind_long s L hs q) (eqb (item_of s L).key k)
-    go false q = i

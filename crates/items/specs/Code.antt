@@ -1,11 +1,13 @@
 -- What the code's values stand for.
-use Rattle.std.specs.Prelude.{ℕ, ◌+◌, ◌-◌, ◌≤◌, ◌<◌, Bool, true, false, List, [], ◌∷◌, take, drop}
+use Rattle.std.specs.Prelude.{ℕ, ◌+◌, ◌-◌, ◌≤◌, ◌<◌, Bool, true, false, List, take, drop, eqb}
+use Rattle.std.specs.Prelude.{Option, None, Some, Result, Ok, Err}
 use Rattle.items.specs.declared.Read.{Read}
 use Rattle.items.specs.declared.Read.TheVariants.{End, Skip, Item}
 use Rattle.items.specs.declared.Spot.{Spot}
-use Rattle.items.specs.declared.Spot.TheVariants.{Corrupt, Missing, At}
-use Rattle.rules.specs.Items.{Reading, stop, skip, item, item_of, size, Scan, scan, presents}
-use Rattle.rules.specs.Fetch.{Found, corrupt, missing, found, last_with}
+use Rattle.items.specs.declared.Corrupt.{Corrupt}
+use Rattle.rules.specs.Bytes.{both}
+use Rattle.rules.specs.Items.{Item as TheItem, Reading, stop, skip, item, item_of, is_present, size, Scan, scan}
+use Rattle.rules.specs.Fetch.{Found, corrupt, missing, found}
 
 -- the bytes from a up to e
 abbrev pub part : List ℕ → ℕ → ℕ → List ℕ
@@ -24,23 +26,18 @@ Fine w n Skip = 8 ≤ n
 Fine w n (Item L) = (size w L ≤ n) × (8 + L ≤ n) × (L < 65536)
 
 -- what the code says of a search: place and data length
-abbrev pub told : Found → Spot
-told corrupt = Corrupt
-told missing = Missing
-told (found e) = At e.at e.it.len
-
-abbrev pub or_of : Spot → Spot → Spot
-or_of Corrupt r = Corrupt
-or_of Missing r = r
-or_of (At p l) r = At p l
+abbrev pub told : Found → Result (Option Spot) Corrupt
+told corrupt = Err (record {})
+told missing = Ok None
+told (found e) = Ok (Some (record { at = e.at; len = e.it.len }))
 
 -- the scan from a place to the end of the area
 abbrev pub scan_in : ℕ → List ℕ → ℕ → ℕ → Scan
 scan_in w img a e = scan w (e - a) a (part img a e)
 
--- what one item at the start of s counts for a key
-abbrev pub single : List ℕ → ℕ → ℕ → ℕ → Spot
-single s at L k = told (last_with k (presents (record { at = at; it = item_of s L } ∷ [])))
+-- an item counts for a key: it is Present with it
+abbrev pub counts : ℕ → TheItem → Bool
+counts k i = both (is_present i.kind) (eqb i.key k)
 
 -- a Present item has a key
 abbrev pub Keyed : Bool → ℕ → Type 0
@@ -54,7 +51,6 @@ Stays w a e Skip = a + w ≤ e
 Stays w a e (Item L) = (a + size w L ≤ e) × (a + 8 + L ≤ e) × (L < 65536)
 
 -- an item that is found lies before e and has a key
-abbrev pub SpotIn : ℕ → Spot → Type 0
-SpotIn e Corrupt = Unit {0}
-SpotIn e Missing = Unit {0}
-SpotIn e (At p L) = (4 ≤ p) × (p + 8 + L ≤ e) × (4 ≤ L) × (L < 65536)
+abbrev pub SpotIn : ℕ → Option Spot → Type 0
+SpotIn e None = Unit {0}
+SpotIn e (Some s) = (4 ≤ s.at) × (s.at + 8 + s.len ≤ e) × (4 ≤ s.len) × (s.len < 65536)

@@ -1,30 +1,33 @@
 // Items: the reading at a place, what an item is, and the loops over a data area.
 #![tactic(auto)]
 
-ghost use Rattle.std.specs.Prelude.{◌≡◌, ◌+◌, ◌≤◌, ◌<◌, length, leb};
+ghost use Rattle.std.specs.Prelude.{◌≡◌, ◌+◌, ◌≤◌, ◌<◌, Ok, length, leb};
 ghost use Rattle.rules.specs.Bytes.{both};
 ghost use Rattle.rules.specs.Items.{item_of, is_present, read, presents};
 ghost use Rattle.rules.specs.Pages.{blank_at};
 ghost use Rattle.rules.specs.Fetch.{last_with};
-ghost use Rattle.items.specs.Code.{part, read_of, Fine, Stays, Keyed, told, or_of, single, SpotIn, scan_in};
+ghost use Rattle.items.specs.Code.{part, read_of, Fine, Stays, Keyed, counts, told, SpotIn, scan_in};
 
 use rules::Kind;
 
 // What stands at a place: the scan's end, a word to skip, or an item of this data length.
-#[derive(Clone, Copy)]
+#[derive(Clone, Copy, PartialEq, Eq)]
 pub enum Read {
     End,
     Skip,
     Item(usize),
 }
 
-// What a search answers: the place and the data length of an item.
-#[derive(Clone, Copy)]
-pub enum Spot {
-    Corrupt,
-    Missing,
-    At(usize, usize),
+// Where an item stands, and its data length.
+#[derive(Clone, Copy, PartialEq, Eq)]
+pub struct Spot {
+    pub at: usize,
+    pub len: usize,
 }
+
+// A search has no page to begin at: none is Open, and none PartialOpen.
+#[derive(Clone, Copy, PartialEq, Eq)]
+pub struct Corrupt;
 
 // What stands at the start of s, which ends where the data area does.
 pub fn look(s: &[u8], w: usize) -> Read
@@ -78,12 +81,7 @@ pub fn present(s: &[u8], len: usize) -> bool
     requires { (8 + len ≤ length s.now) × (len < 65536) }
     ensures { (result ≡ is_present (item_of s.now len).kind) × Keyed result len }
 {
-    let k = kind(s, len);
-    match k {
-        Kind::Present => true,
-        Kind::Removed => false,
-        Kind::Damaged => false,
-    }
+    kind(s, len) == Kind::Present
 }
 
 // Its key, where it has one.
@@ -94,30 +92,21 @@ pub fn key(s: &[u8], len: usize) -> u32
     words::le32(s, 8)
 }
 
-// This item where it is Present with the key, else what was best before. Bits are counted only where the key fits.
-fn better(s: &[u8], at: usize, len: usize, wanted: u32, best: Spot) -> Spot
+// Is it Present with the wanted key? Bits are counted only where the key fits.
+pub fn has_key(s: &[u8], len: usize, wanted: u32) -> bool
     requires { (8 + len ≤ length s.now) × (len < 65536) }
-    ensures { result ≡ or_of (single s.now at len wanted) best }
+    ensures { (result ≡ counts wanted (item_of s.now len)) × Keyed result len }
 {
-    if len < 4 {
-        return best;
-    }
-    if key(s, len) != wanted {
-        return best;
-    }
-    if present(s, len) {
-        return Spot::At(at, len);
-    }
-    best
+    4 <= len && key(s, len) == wanted && present(s, len)
 }
 
 // The last Present item with the key from a place to the area's end.
-pub fn last_in(img: &[u8], a: usize, e: usize, w: usize, wanted: u32) -> Spot
+pub fn last_in(img: &[u8], a: usize, e: usize, w: usize, wanted: u32) -> Option<Spot>
     requires { (4 ≤ a) × (a ≤ e) × (e ≤ length img.now) × (4 ≤ w) × (w ≤ 8) }
-    ensures { (result ≡ told (last_with wanted (presents (scan_in w img.now a e).items))) × SpotIn e result }
+    ensures { (Ok result ≡ told (last_with wanted (presents (scan_in w img.now a e).items))) × SpotIn e result }
 {
     let mut at = a;
-    let mut best = Spot::Missing;
+    let mut best = None;
     while at < e {
         let r = look_at(img, at, e, w);
         match r {
@@ -129,7 +118,9 @@ pub fn last_in(img: &[u8], a: usize, e: usize, w: usize, wanted: u32) -> Spot
                 continue;
             }
             Read::Item(len) => {
-                best = better(&img[at..e], at, len, wanted, best);
+                if has_key(&img[at..e], len, wanted) {
+                    best = Some(Spot { at, len });
+                }
                 at += words::size(w, len);
             }
         }

@@ -1,55 +1,42 @@
 // The walk as a struct that holds the image it reads, over the proved step of map.
 #![tactic(auto)]
 
-ghost use Rattle.std.specs.Prelude.{◌≡◌};
 ghost use Rattle.map.specs.Code.{StepOk};
-ghost use Rattle.iter.specs.Code.{walk_at, cursor_of};
 
 use map::Stepped;
 use rules::Cursor;
 
-// A walk: the image, its first page, the page it reads, the place it reads next.
+// A walk: the image, and the cursor with its first page, the page it reads and the place it reads next.
+// It is no Iterator: at each step its caller gives the page size, and may be told a refusal.
 #[derive(Clone, Copy)]
 pub struct MapItemIter<'a> {
     pub image: &'a [u8],
-    pub first: usize,
-    pub page: usize,
-    pub place: usize,
+    pub cursor: Cursor,
 }
 
-// A walk from a cursor, which map::fetch_all_items gives.
-pub fn new<'a>(image: &'a [u8], cursor: Cursor) -> MapItemIter<'a>
-    ensures { result ≡ walk_at image.entry cursor }
-{
-    MapItemIter {
-        image,
-        first: cursor.first,
-        page: cursor.page,
-        place: cursor.place,
+impl<'a> MapItemIter<'a> {
+    ghost use Rattle.std.specs.Prelude.{◌≡◌};
+    ghost use Rattle.iter.specs.Code.{walk_at};
+
+    // A walk from a cursor, which map::fetch_all_items gives.
+    pub fn new(image: &'a [u8], cursor: Cursor) -> MapItemIter<'a>
+        ensures { result ≡ walk_at image.entry cursor }
+    {
+        MapItemIter { image, cursor }
     }
-}
 
-// The walk's next item, and the cursor after it.
-pub fn next<'a>(walk: MapItemIter<'a>, page_size: usize) -> Stepped
-    ensures { StepOk page_size (cursor_of walk.entry) walk.entry.image.now result }
-{
-    let cursor = Cursor {
-        first: walk.first,
-        page: walk.page,
-        place: walk.place,
-    };
-    map::next_item(walk.image, page_size, cursor)
-}
+    // The walk's next item, and the cursor after it.
+    pub fn next(self, page_size: usize) -> Stepped
+        ensures { StepOk page_size self.entry.cursor self.entry.image.now result }
+    {
+        map::next_item(self.image, page_size, self.cursor)
+    }
 
-// The walk after a step: the same image, and the step's cursor.
-pub fn moved<'a>(walk: MapItemIter<'a>, cursor: Cursor) -> MapItemIter<'a>
-    ensures { result ≡ walk_at walk.entry.image cursor }
-{
-    MapItemIter {
-        image: walk.image,
-        first: cursor.first,
-        page: cursor.page,
-        place: cursor.place,
+    // The walk after a step: the same image, and the step's cursor.
+    pub fn moved(self, cursor: Cursor) -> MapItemIter<'a>
+        ensures { result ≡ walk_at self.entry.image cursor }
+    {
+        MapItemIter { cursor, ..self }
     }
 }
 
@@ -57,5 +44,5 @@ pub fn moved<'a>(walk: MapItemIter<'a>, cursor: Cursor) -> MapItemIter<'a>
 pub fn next_of(image: &[u8], cursor: Cursor, page_size: usize) -> Stepped
     ensures { StepOk page_size cursor image.now result }
 {
-    next(new(image, cursor), page_size)
+    MapItemIter::new(image, cursor).next(page_size)
 }

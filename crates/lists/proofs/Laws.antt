@@ -1,5 +1,5 @@
 -- Digests and values, in the form that the loops ask.
-use Rattle.std.proofs.Common.{◌≡◌, ℕ, zero, suc, ◌+◌, ◌-◌, ◌%◌, ◌<◌, ◌≤◌, true, false, List, [], ◌∷◌, ◌++◌, length, get_or, take, drop, set, refl, ap, append-nil, add-one, arith, drop_of_length-le, take_all, drop-cons, take-suc-set, eq-eqb, ne_eqb}
+use Rattle.std.proofs.Common.{◌≡◌, ℕ, zero, suc, ◌+◌, ◌-◌, ◌%◌, ◌<◌, ◌≤◌, true, false, List, [], ◌∷◌, ◌++◌, length, get_or, take, drop, set, refl, ap, append-nil, add-one, arith, drop_of_length-le, take_all, drop-cons, take-suc-set, eq-eqb, ne_eqb, ◌⊎◌, ⊎_elim}
 use lib.Seq.{append_snoc}
 use Rattle.rules.specs.Cache.{Pointer}
 use Rattle.cache.specs.declared.{Cache.Cache}
@@ -24,22 +24,17 @@ entries-all (suc n) [] ys h = refl
 entries-all (suc n) (x ∷ xs) [] h = refl
 entries-all (suc n) (x ∷ xs) (y ∷ ys) h = ap (λ (t : List Pointer). record { key = x; place = y } ∷ t) (entries-all n xs ys (omega arith))
 
--- a digest of the entries from i on
-abbrev pub from : ℕ → Cache → ℕ → ℕ
-from h c i = digest_entries h (entries (drop i c.keys) (drop i c.places))
-
-pub from_start : (h : ℕ) (c : Cache) → length c.keys ≡ 32 → from h c 0 ≡ digest_entries h (pointers 32 c)
+-- a digest of all entries
+pub entries_start : (h : ℕ) (c : Cache) → length c.keys ≡ 32 → digest_entries h (entries c.keys c.places) ≡ digest_entries h (pointers 32 c)
 unfolding pointers
-from_start h c g = rw (entries-all 32 c.keys c.places (omega arith))
+entries_start h c g = rw (entries-all 32 c.keys c.places (omega arith))
 
-pub from_step : (h : ℕ) (c : Cache) (i : ℕ) → i < length c.keys → i < length c.places
-    → from h c i ≡ from (mix (mix h (get_or c.keys i 0)) (get_or c.places i 0)) c (i + 1)
+-- of no entries
+pub entries_end : (h : ℕ) (xs ys : List ℕ) → (length xs ≡ 0) ⊎ (length ys ≡ 0) → digest_entries h (entries xs ys) ≡ h
 unfolding digest_entries
-from_step h c i g f = rw (add-one, drop-cons c.keys i 0 g, drop-cons c.places i 0 f)
-
-pub from_end : (h : ℕ) (c : Cache) (i : ℕ) → length c.keys ≤ i → from h c i ≡ h
-unfolding digest_entries
-from_end h c i g = rw (drop_of_length-le c.keys {i = i} g)
+entries_end h [] ys e = refl
+entries_end h (x ∷ xs) [] e = refl
+entries_end h (x ∷ xs) (y ∷ ys) e = ⊎_elim (λ f. absurd (omega arith)) (λ f. absurd (omega arith)) e
 
 -- ---- values
 

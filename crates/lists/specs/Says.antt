@@ -1,5 +1,5 @@
 -- What a list says: digests, values by rule, and whether a call did what its line says.
-use Rattle.std.specs.Prelude.{ℕ, zero, suc, ◌+◌, ◌*◌, ◌%◌, Bool, true, false, List, [], ◌∷◌, length, ◌==◌}
+use Rattle.std.specs.Prelude.{◌≡◌, ℕ, zero, suc, ◌+◌, ◌*◌, ◌%◌, Bool, true, false, List, [], ◌∷◌, length, ◌==◌, Option, Some, None}
 use Rattle.rules.specs.declared.{Cursor.Cursor}
 use Rattle.rules.specs.Bytes.{both}
 use Rattle.rules.specs.Cache.{Cache as Entries}
@@ -9,7 +9,7 @@ use Rattle.rules.specs.Calls.{Lent, Told, called, fetch_item, fetch_plain}
 use Rattle.answer.specs.declared.{Shown.Shown}
 use Rattle.answer.specs.Code.{shown_of}
 use Rattle.cache.specs.Code.{pointers}
-use Rattle.lists.specs.declared.{play.Says.Says, play.Seen.Seen, play.Played.Played}
+use Rattle.lists.specs.declared.{play.Run.Run, play.Says.Says, play.Seen.Seen}
 
 -- ---- digests
 
@@ -48,14 +48,15 @@ follows s b step = alike s (value_of (length s) b step)
 -- ---- what a line says of a call
 
 -- what an answer shows is as the line says: nothing, a value, or an item; the value's bytes are those of the image
-unfoldable pub shows : Seen → List ℕ → Shown → Bool
-shows v img s =
-    both (s.kind == v.kind)
+abbrev pub shows : Option Seen → List ℕ → Shown → Bool
+shows None img s = s.kind == 0
+shows (Some v) img s =
+    both (s.kind == 1)
     (both (s.key == v.key)
-    (both (s.len == v.len) (follows (view img s.place s.len) v.first v.step)))
+    (both (s.len == v.len) (follows (view img s.place s.len) v.rule.first v.rule.step)))
 
 -- what a call told is as the line says: the answer's number, the pages erased, the digests of image and cache
-unfoldable pub agrees : Says → Told → Bool
+abbrev pub agrees : Says → Told → Bool
 agrees s t =
     both (number t.answer == s.no)
     (both (t.erased == s.erased)
@@ -78,16 +79,22 @@ abbrev pub judged : Says → Bool → Told → Verdict
 judged s shown t = verdict t (both shown (agrees s t))
 
 -- a fetch of a key, and a plain fetch after it: both answers show what the line says
-abbrev pub fetched : ℕ → ℕ → ℕ → Says → Seen → Lent → Verdict
+abbrev pub fetched : ℕ → ℕ → ℕ → Says → Option Seen → Lent → Verdict
 fetched E m k s v l =
     let t = called 4 E m (fetch_item k) l in
     let plain = called 4 E 0 (fetch_plain k) (record { image = t.image; cache = [] }) in
     judged s (both (shows v t.image (shown_of plain.answer)) (shows v t.image (shown_of t.answer))) t
 
 -- a step of a walk
-abbrev pub judged_step : Seen → Told → Verdict
+abbrev pub judged_step : Option Seen → Told → Verdict
 judged_step v t = verdict t (both (is_no 0 t.answer) (shows v t.image (shown_of t.answer)))
 
--- what the code left
-abbrev pub played_of : List ℕ → Played → Verdict
-played_of img p = record { image = img; cache = pointers 32 p.cache; cursor = p.cursor; equal = p.equal }
+-- what the code left, and whether it is as the line says
+abbrev pub left : List ℕ → Run → Bool → Verdict
+left img r e = record { image = img; cache = pointers 32 r.cache; cursor = r.cursor; equal = e }
+
+-- the sizes of a run stay
+pub record SameSizes (old new : Run) : Type 0 where
+  pub page : new.page ≡ old.page
+  pub len : new.len ≡ old.len
+  pub size : new.size ≡ old.size

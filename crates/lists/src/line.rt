@@ -1,124 +1,102 @@
 // A line of a list: a letter, then numbers, each after one space. It is read byte by byte.
-ghost use Rattle.std.specs.Prelude.{◌≡◌, ◌-◌, ◌<◌, ◌≤◌};
-ghost use Rattle.lists.specs.Reads.{blank, lettered, broken, begun, grown, read_byte};
+ghost use Rattle.std.specs.Prelude.{◌≡◌};
 
-// A line as far as it is read. The letter is a line end where nothing is read yet, ? where the bytes are no line, # in a
-// comment. A digit is due after a space.
-#[derive(Clone, Copy)]
-pub struct Line {
+use arrayvec::ArrayVec;
+
+// A call as far as its line is read: its letter, its numbers, and whether a digit is due, as after a space.
+#[derive(Drop)]
+pub struct Call {
     pub letter: u8,
-    pub count: usize,
+    pub numbers: ArrayVec<u32, 8>,
     pub due: bool,
-    pub numbers: [u32; 8],
 }
 
-// A line with this letter alone.
-fn lettered(letter: u8) -> Line
-    ensures { result ≡ lettered letter }
-{
-    Line {
-        letter,
-        count: 0,
-        due: false,
-        numbers: [0; 8],
-    }
+// A line as far as it is read.
+#[derive(Default, Drop)]
+pub enum Line {
+    #[default]
+    Blank, // nothing is read yet
+    Comment,
+    Broken, // its bytes are no line of a list
+    Call(Call),
 }
 
-// Nothing read yet.
-pub fn blank() -> Line
-    ensures { result ≡ blank }
-{
-    lettered(b'\n')
-}
+impl Call {
+    ghost use Rattle.lists.specs.Reads.{lettered, begun, grown};
 
-// No line of a list.
-fn broken() -> Line
-    ensures { result ≡ broken }
-{
-    lettered(b'?')
-}
+    // A letter alone.
+    fn new(letter: u8) -> Call
+        ensures { result ≡ lettered letter }
+    {
+        Call {
+            letter,
+            numbers: ArrayVec::new(),
+            due: false,
+        }
+    }
 
-// A space begins a number, the eighth at most.
-fn begin(l: Line) -> Line
-    ensures { result ≡ begun l }
-{
-    if l.due {
-        return broken();
+    // A space begins a number, the eighth at most.
+    fn begin(mut self) -> Option<Call>
+        ensures { result ≡ begun self }
+    {
+        if self.due {
+            return None;
+        }
+        self.numbers.try_push(0).ok()?;
+        self.due = true;
+        Some(self)
     }
-    if 8 <= l.count {
-        return broken();
-    }
-    let numbers = l.numbers;
-    Line {
-        letter: l.letter,
-        count: l.count + 1,
-        due: true,
-        numbers,
-    }
-}
 
-// A digit goes on with the last number, which has 32 bits.
-fn grow(l: Line, digit: u64) -> Line
-    requires { digit < 10 }
-    ensures { result ≡ grown l digit }
-{
-    if l.count == 0 {
-        return broken();
-    }
-    if 8 < l.count {
-        return broken();
-    }
-    let k = l.count - 1;
-    let mut numbers = l.numbers;
-    let x = wide(numbers[k]) * 10 + digit;
-    if 4294967295 < x {
-        return broken();
-    }
-    numbers[k] = x as u32;
-    Line {
-        letter: l.letter,
-        count: l.count,
-        due: false,
-        numbers,
+    // A digit goes on with the last number, which has 32 bits.
+    fn grow(mut self, digit: u32) -> Option<Call>
+        ensures { result ≡ grown self digit }
+    {
+        let number = self.numbers.pop()?;
+        self.numbers
+            .push(number.checked_mul(10)?.checked_add(digit)?);
+        self.due = false;
+        Some(self)
     }
 }
 
-// A number of 32 bits, with its bound.
-fn wide(x: u32) -> u64
-    ensures { (result ≡ x) × (result < 4294967296) }
-{
-    x as u64
-}
+impl Line {
+    ghost use Rattle.lists.specs.Reads.{opened, going_on, read_byte};
 
-// A digit's number.
-fn digit(b: u8) -> u64
-    requires { (48 ≤ b) × (b ≤ 57) }
-    ensures { (result ≡ b - 48) × (result < 10) }
-{
-    (b - 48) as u64
-}
+    // A line's first byte.
+    fn open(b: u8) -> Line
+        ensures { result ≡ opened b }
+    {
+        match b {
+            b'\n' => Line::Blank,
+            b'#' => Line::Comment,
+            b'?' => Line::Broken,
+            letter => Line::Call(Call::new(letter)),
+        }
+    }
 
-// The line with one byte more; a line end is no byte of it.
-pub fn read_byte(l: Line, b: u8) -> Line
-    ensures { result ≡ read_byte l b }
-{
-    if l.letter == b'\n' {
-        return lettered(b);
+    // A call's line goes on, or else it is no line of a list.
+    fn going_on(call: Option<Call>) -> Line
+        ensures { result ≡ going_on call }
+    {
+        match call {
+            Some(call) => Line::Call(call),
+            None => Line::Broken,
+        }
     }
-    if l.letter == b'#' {
-        return l;
+
+    // The line with one byte more; a line end is no byte of it.
+    pub fn read_byte(self, b: u8) -> Line
+        ensures { result ≡ read_byte self b }
+    {
+        match self {
+            Line::Blank => Line::open(b),
+            Line::Comment => Line::Comment,
+            Line::Broken => Line::Broken,
+            Line::Call(call) => Line::going_on(match b {
+                b' ' => call.begin(),
+                b'0'..=b'9' => call.grow(u32::from(b - b'0')),
+                _ => None,
+            }),
+        }
     }
-    if l.letter == b'?' {
-        return l;
-    }
-    if b == b' ' {
-        return begin(l);
-    }
-    if b < 48 {
-        return broken();
-    }
-    if 57 < b {
-        return broken();
-    }
-    grow(l, digit(b))
 }

@@ -1,17 +1,17 @@
 // Calls of a list made on the public calls, each held against what its line says.
 ghost use Rattle.std.specs.Prelude.{◌≡◌, true};
-ghost use Rattle.rules.specs.Bytes.{both};
-ghost use Rattle.rules.specs.Calls.{called, store_item, remove_item, remove_all_items, erase_all_pages, fetch_all_items, next_item, no_cursor};
+ghost use Rattle.rules.specs.Calls.{called, store_item, remove_item, remove_all_items, erase_all_pages, fetch_all_items, next_item};
 ghost use Rattle.answer.specs.Code.{shown_of};
 ghost use Rattle.map.specs.Code.{lent_of, told_of};
-ghost use Rattle.lists.specs.Says.{shows, agrees, judged, fetched, judged_step, played_of};
 
-use crate::{digest, value};
+use crate::digest;
+use crate::value::Rule;
 use cache::Cache;
 use map::Told;
 use rules::{Answer, Cursor};
 
-// A run of a list: bytes of a page and of the image, entries of the cache, and what the next call is lent beside the image.
+// A run of a list: bytes of a page and of the image, entries of the cache, and what the next call is lent beside the
+// image.
 #[derive(Clone, Copy)]
 pub struct Run {
     pub page: usize,
@@ -30,195 +30,148 @@ pub struct Says {
     pub cache: u64,
 }
 
-// What a line says that an answer shows: kind (0 nothing, 1 a value or an item), key, and the value.
+// What a line says that an answer shows: the key of an item, or 0, and the value.
 #[derive(Clone, Copy)]
 pub struct Seen {
-    pub kind: u32,
     pub key: u32,
     pub len: usize,
-    pub first: u8,
-    pub step: u8,
+    pub rule: Rule,
 }
 
-// What a call leaves beside the image, and whether it is as its line says.
-#[derive(Clone, Copy)]
-pub struct Played {
-    pub cache: Cache,
-    pub cursor: Cursor,
-    pub equal: bool,
-}
+impl Seen {
+    ghost use Rattle.lists.specs.Says.{shows};
 
-// Does the answer show on this image what the line says?
-fn shows(img: &[u8], a: Answer, v: Seen) -> bool
-    ensures { result ≡ shows v img.now (shown_of a) }
-{
-    let s = answer::show(a);
-    if s.kind != v.kind {
-        return false;
-    }
-    if s.key != v.key {
-        return false;
-    }
-    if s.len != v.len {
-        return false;
-    }
-    value::follows(map::view(img, s.place, s.len), v.first, v.step)
-}
-
-// Did the call answer and leave what the line says?
-fn agrees(img: &[u8], told: Told, s: Says) -> bool
-    ensures { result ≡ agrees s (told_of img.now told) }
-{
-    let a = told.answer;
-    if answer::number(a) != s.no {
-        return false;
-    }
-    if told.erased != s.erased {
-        return false;
-    }
-    if digest::of_bytes(img) != s.image {
-        return false;
-    }
-    let c = told.cache;
-    digest::of_cache(c) == s.cache
-}
-
-// Two tests hold.
-fn both(a: bool, b: bool) -> bool
-    ensures { result ≡ both a b }
-{
-    if a {
-        return b;
-    }
-    false
-}
-
-// The cursor of a call that is no walk.
-fn no_cursor() -> Cursor
-    ensures { result ≡ no_cursor }
-{
-    Cursor {
-        first: 0,
-        page: 0,
-        place: 0,
+    // Does the answer show on this image what the line says? Where that is nothing, it shows no value.
+    fn is_shown(seen: Option<Seen>, img: &[u8], a: Answer) -> bool
+        ensures { result ≡ shows seen img.now (shown_of a) }
+    {
+        let shown = answer::show(a);
+        match seen {
+            None => shown.kind == 0,
+            Some(seen) => {
+                shown.kind == 1
+                    && shown.key == seen.key
+                    && shown.len == seen.len
+                    && seen
+                        .rule
+                        .is_followed(map::view(img, shown.place, shown.len))
+            }
+        }
     }
 }
 
-// What a call that is no walk told, held against its line; shown: its answer shows what the line says.
-fn judge(img: &[u8], told: Told, s: Says, shown: bool) -> Played
-    ensures { played_of img.now result ≡ judged s shown (told_of img.now told) }
-{
-    let agreed = agrees(img, told, s);
-    let cache = told.cache;
-    let cursor = no_cursor();
-    let equal = both(shown, agreed);
-    Played {
-        cache,
-        cursor,
-        equal,
+impl Says {
+    ghost use Rattle.lists.specs.Says.{agrees};
+
+    // Did the call answer and leave what the line says?
+    fn agrees(self, img: &[u8], told: Told) -> bool
+        ensures { result ≡ agrees self (told_of img.now told) }
+    {
+        answer::number(told.answer) == self.no
+            && told.erased == self.erased
+            && digest::of_bytes(img) == self.image
+            && digest::of_cache(told.cache) == self.cache
     }
 }
 
-// A store.
-pub fn store(img: &mut [u8], run: Run, key: u32, value: &[u8], s: Says) -> Played
-    ensures { played_of img.new result ≡ judged s true (called 4 run.page run.size (store_item key value.now) (lent_of img.old run.cache)) }
-{
-    let c = run.cache;
-    let told = map::store_item(img, run.page, c, run.size, key, value);
-    judge(img, told, s, true)
-}
+// Each call says whether it is as its line says.
+impl Run {
+    ghost use Rattle.lists.specs.Says.{SameSizes, left, judged, fetched, judged_step};
 
-// A removal of one key.
-pub fn remove(img: &mut [u8], run: Run, key: u32, s: Says) -> Played
-    ensures { played_of img.new result ≡ judged s true (called 4 run.page run.size (remove_item key) (lent_of img.old run.cache)) }
-{
-    let c = run.cache;
-    let told = map::remove_item(img, run.page, c, run.size, key);
-    judge(img, told, s, true)
-}
-
-// A removal of all keys.
-pub fn remove_all(img: &mut [u8], run: Run, s: Says) -> Played
-    ensures { played_of img.new result ≡ judged s true (called 4 run.page run.size remove_all_items (lent_of img.old run.cache)) }
-{
-    let c = run.cache;
-    let told = map::remove_all_items(img, run.page, c, run.size);
-    judge(img, told, s, true)
-}
-
-// Erase all.
-pub fn erase_all(img: &mut [u8], run: Run, s: Says) -> Played
-    ensures { played_of img.new result ≡ judged s true (called 4 run.page run.size erase_all_pages (lent_of img.old run.cache)) }
-{
-    let c = run.cache;
-    let told = map::erase_all(img, run.page, c, run.size);
-    judge(img, told, s, true)
-}
-
-// Do both answers show what the line says?
-fn both_show(img: &[u8], plain: Answer, a: Answer, v: Seen) -> bool
-    ensures { result ≡ both (shows v img.now (shown_of plain)) (shows v img.now (shown_of a)) }
-{
-    if shows(img, plain, v) {
-        return shows(img, a, v);
-    }
-    false
-}
-
-// A fetch, and a plain fetch after it.
-pub fn fetch(img: &mut [u8], run: Run, key: u32, s: Says, v: Seen) -> Played
-    ensures { played_of img.new result ≡ fetched run.page run.size key s v (lent_of img.old run.cache) }
-{
-    let c = run.cache;
-    let told = map::fetch_item(img, run.page, c, run.size, key);
-    let a = told.answer;
-    let plain = map::fetch_plain(img, run.page, key);
-    let shown = both_show(img, plain, a, v);
-    judge(img, told, s, shown)
-}
-
-// A walk's start.
-pub fn walk(img: &mut [u8], run: Run, s: Says) -> Played
-    ensures { played_of img.new result ≡ judged s true (called 4 run.page run.size fetch_all_items (lent_of img.old run.cache)) }
-{
-    let c = run.cache;
-    let started = map::fetch_all_items(img, run.page, c, run.size);
-    let answer = started.answer;
-    let cache = started.cache;
-    let cursor = started.cursor;
-    let told = Told {
-        answer,
-        cache,
-        erased: started.erased,
-    };
-    let equal = agrees(img, told, s);
-    Played {
-        cache,
-        cursor,
-        equal,
-    }
-}
-
-// A walk's step: an item, or nothing at the end. The answer's number is 0.
-pub fn step(img: &[u8], run: Run, v: Seen) -> Played
-    ensures { played_of img.now result ≡ judged_step v (called 4 run.page run.size (next_item run.cursor) (lent_of img.now run.cache)) }
-{
-    let cache = run.cache;
-    let at = run.cursor;
-    let stepped = map::next_item(img, run.page, at);
-    let a = stepped.answer;
-    let cursor = stepped.cursor;
-    if answer::number(a) != 0 {
-        return Played {
-            cache,
-            cursor,
-            equal: false,
+    // What a call that is no walk told, held against its line.
+    fn settle(&mut self, img: &[u8], told: Told, says: Says) -> bool
+        ensures judged { left img.now self.new result ≡ judged says true (told_of img.now told) }
+        ensures sizes { SameSizes self.old self.new }
+    {
+        self.cache = told.cache;
+        self.cursor = Cursor {
+            first: 0,
+            page: 0,
+            place: 0,
         };
+        says.agrees(img, told)
     }
-    let equal = shows(img, a, v);
-    Played {
-        cache,
-        cursor,
-        equal,
+
+    // A store.
+    pub fn store(&mut self, img: &mut [u8], key: u32, value: &[u8], says: Says) -> bool
+        ensures judged { left img.new self.new result
+            ≡ judged says true
+            (called 4 self.old.page self.old.size (store_item key value.now) (lent_of img.old self.old.cache)) }
+        ensures sizes { SameSizes self.old self.new }
+    {
+        let told = map::store_item(img, self.page, self.cache, self.size, key, value);
+        self.settle(img, told, says)
+    }
+
+    // A removal of one key.
+    pub fn remove(&mut self, img: &mut [u8], key: u32, says: Says) -> bool
+        ensures judged { left img.new self.new result
+            ≡ judged says true (called 4 self.old.page self.old.size (remove_item key) (lent_of img.old self.old.cache)) }
+        ensures sizes { SameSizes self.old self.new }
+    {
+        let told = map::remove_item(img, self.page, self.cache, self.size, key);
+        self.settle(img, told, says)
+    }
+
+    // A removal of all keys.
+    pub fn remove_all(&mut self, img: &mut [u8], says: Says) -> bool
+        ensures judged { left img.new self.new result
+            ≡ judged says true (called 4 self.old.page self.old.size remove_all_items (lent_of img.old self.old.cache)) }
+        ensures sizes { SameSizes self.old self.new }
+    {
+        let told = map::remove_all_items(img, self.page, self.cache, self.size);
+        self.settle(img, told, says)
+    }
+
+    // Erase all.
+    pub fn erase_all(&mut self, img: &mut [u8], says: Says) -> bool
+        ensures judged { left img.new self.new result
+            ≡ judged says true (called 4 self.old.page self.old.size erase_all_pages (lent_of img.old self.old.cache)) }
+        ensures sizes { SameSizes self.old self.new }
+    {
+        let told = map::erase_all(img, self.page, self.cache, self.size);
+        self.settle(img, told, says)
+    }
+
+    // A fetch, and a plain fetch after it.
+    pub fn fetch(&mut self, img: &mut [u8], key: u32, says: Says, seen: Option<Seen>) -> bool
+        ensures judged { left img.new self.new result
+            ≡ fetched self.old.page self.old.size key says seen (lent_of img.old self.old.cache) }
+        ensures sizes { SameSizes self.old self.new }
+    {
+        let told = map::fetch_item(img, self.page, self.cache, self.size, key);
+        let plain = map::fetch_plain(img, self.page, key);
+        let shown = Seen::is_shown(seen, img, plain) && Seen::is_shown(seen, img, told.answer);
+        let agreed = self.settle(img, told, says);
+        shown && agreed
+    }
+
+    // A walk's start.
+    pub fn walk(&mut self, img: &mut [u8], says: Says) -> bool
+        ensures judged { left img.new self.new result
+            ≡ judged says true (called 4 self.old.page self.old.size fetch_all_items (lent_of img.old self.old.cache)) }
+        ensures sizes { SameSizes self.old self.new }
+    {
+        let started = map::fetch_all_items(img, self.page, self.cache, self.size);
+        let told = Told {
+            answer: started.answer,
+            cache: started.cache,
+            erased: started.erased,
+        };
+        let agreed = self.settle(img, told, says);
+        self.cursor = started.cursor;
+        agreed
+    }
+
+    // A walk's step: an item, or nothing at the end. The answer's number is 0.
+    pub fn step(&mut self, img: &[u8], seen: Option<Seen>) -> bool
+        ensures judged { left img.now self.new result
+            ≡ judged_step seen
+            (called 4 self.old.page self.old.size (next_item self.old.cursor) (lent_of img.now self.old.cache)) }
+        ensures sizes { SameSizes self.old self.new }
+    {
+        let stepped = map::next_item(img, self.page, self.cursor);
+        self.cursor = stepped.cursor;
+        answer::number(stepped.answer) == 0 && Seen::is_shown(seen, img, stepped.answer)
     }
 }

@@ -1,34 +1,37 @@
-// Values by rule: a first byte, and a step from each byte to the next.
+// Values by rule.
 ghost use Rattle.std.specs.Prelude.{◌≡◌, length};
 ghost use Rattle.lists.specs.Says.{value_of, follows};
 
-use std::num::wrapping_add_u8;
-
-// The value in the lent bytes.
-pub fn fill(s: &mut [u8], first: u8, step: u8)
-    ensures { s.new ≡ value_of (length s.old) first step }
-{
-    let mut b = first;
-    let mut i: usize = 0;
-    while i < s.len() {
-        s[i] = b;
-        b = wrapping_add_u8(b, step);
-        i += 1;
-    }
+// A value's first byte, and the step from each byte to the next.
+#[derive(Clone, Copy)]
+pub struct Rule {
+    pub first: u8,
+    pub step: u8,
 }
 
-// Are these the value's bytes?
-pub fn follows(s: &[u8], first: u8, step: u8) -> bool
-    ensures { result ≡ follows s.now first step }
-{
-    let mut b = first;
-    let mut i: usize = 0;
-    while i < s.len() {
-        if s[i] != b {
-            return false;
+impl Rule {
+    // The value in the lent bytes.
+    pub fn fill(self, s: &mut [u8])
+        ensures { s.new ≡ value_of (length s.old) self.first self.step }
+    {
+        let mut b = self.first;
+        for x in s.iter_mut() {
+            *x = b;
+            b = b.wrapping_add(self.step);
         }
-        b = wrapping_add_u8(b, step);
-        i += 1;
     }
-    true
+
+    // Are these the value's bytes?
+    pub fn is_followed(self, s: &[u8]) -> bool
+        ensures { result ≡ follows s.now self.first self.step }
+    {
+        let mut due = self.first;
+        for x in s {
+            if *x != due {
+                return false;
+            }
+            due = due.wrapping_add(self.step);
+        }
+        true
+    }
 }

@@ -1,7 +1,6 @@
 -- A public call is refused, or it runs.
 use mathlib.Core.Path.{◌≡◌, refl, ap, sym, ◌∙◌}
-use mathlib.Core.Logic.{◌≢◌, inl}
-use Prim.Native.Nat.{ℕ}
+use Prim.Native.Nat.{ℕ, ◌≤◌, ◌<◌}
 use native.Mathlib.Omega.{arith}
 use mathlib.Core.Bool.{Bool, true, false}
 use mathlib.Core.List.{List, [], ◌++◌}
@@ -18,60 +17,73 @@ use Rattle.rules.specs.Store.{repair, looked, auto_repair}
 use Rattle.rules.specs.Walk.{Step, ended, stepped, walk_first, run_start, walk_start}
 use Rattle.rules.specs.Calls.{Told as Handed, no_cursor, step_answer, step_cursor, geo_of, tell, behind, steps_behind}
 use Rattle.rules.specs.Calls.{Cut}
-use Rattle.laws.specs.Geometry.{fits}
 use Rattle.cache.specs.declared.{Cache.Cache}
 use Rattle.laws.specs.Power.{lasts-endless, spend_zero}
-use Rattle.laws.specs.Through.{thr_cut}
 use Rattle.rules.specs.Power.{endless, units}
 use Rattle.cache.specs.Code.{pointers, Past}
 use Rattle.cache.proofs.Whole.{take-pointers, past_pointers}
-use Rattle.fetch.specs.declared.{Mem.Mem}
+use Rattle.laws.specs.Through.{Through, thr_cut}
+use Rattle.fetch.specs.declared.storage.Storage.{Storage}
 use Rattle.fetch.specs.Code.{st_of}
-use Rattle.store.specs.declared.{Run.Run}
-use Rattle.store.specs.Code.{RunOk}
 use Rattle.walk.specs.Code.{told_step}
 use Rattle.map.specs.Code.{lent_of, RunCut, answered, HasFirst, first_cursor, stepped_by}
 
-module _ (E m v : ℕ) (img : List ℕ) (no : Answer) (d : ℕ) (hno : no ≡ refusal 4 E (length img) m v)
-    (hd : d ≡ number no) where
-  module _ (f : Geo → St → Out) (cur : Geo → Out → Cursor) (c₀ : Cursor) where
-    -- a refusal leaves everything
-    pub refused : d ≢ 0 → (c : Entries)
-        → answered no c₀ (record { image = img; cache = c })
-        ≡ behind 4 E m v (record { image = img; cache = c }) f cur c₀
-    unfolding behind
-    refused n c = rw (← hno, ne_eqb (number no) 0 (λ z. n (hd ∙ z)))
+-- ---- a refusal
 
-    passed : d ≡ 0 → (c : Entries)
-        → behind 4 E m v (record { image = img; cache = c }) f cur c₀
-        ≡ tell m (record { image = img; cache = c }) (cur (geo_of 4 E (length img)))
-        (f (geo_of 4 E (length img)) (record { img = img; cache = take m c; erased = 0 }))
-    unfolding behind
-    passed z c = rw (← hno, eq-eqb (number no) 0 (sym hd ∙ z))
+module _ (E m v : ℕ) (img : List ℕ) (no : Answer) (hno : no ≡ refusal 4 E (length img) m v) (hd : 0 < number no) where
+  not_done : number no ≡ 0 → ⊥
+  not_done z = omega arith
+
+  -- it leaves everything
+  pub refused : (f : Geo → St → Out) (cur : Geo → Out → Cursor) (c₀ : Cursor) (c : Entries)
+      → answered no c₀ (record { image = img; cache = c })
+      ≡ behind 4 E m v (record { image = img; cache = c }) f cur c₀
+  unfolding behind
+  refused f cur c₀ c = rw (← hno, ne_eqb (number no) 0 not_done) refl
+
+  steps-none : (f : Geo → St → Out) (c : Cache) → steps_behind 4 E m v (lent_of img c) f ≡ []
+  unfolding steps_behind
+  steps-none f c = rw (← hno, ne_eqb (number no) 0 not_done) refl
+
+  pub refused-cut : (f : Geo → St → Out) (c : Cache) (p : ℕ)
+      → RunCut E m v (lent_of img c) f p p (answered no no_cursor (lent_of img c))
+  refused-cut f c p =
+      record {
+        image = rw (steps-none f c) refl;
+        left = rw (steps-none f c) (sym (spend_zero p));
+        whole = λ q. refused f (λ G o. no_cursor) no_cursor (pointers 32 c);
+      }
+
+-- ---- a run
+
+module _ (E m v : ℕ) (img : List ℕ) (ok : refusal 4 E (length img) m v ≡ Done) (G : Geo)
+    (g : G ≡ geo_of 4 E (length img)) (f : Geo → St → Out) where
+  passed : (cur : Geo → Out → Cursor) (c₀ : Cursor) (c : Entries)
+      → behind 4 E m v (record { image = img; cache = c }) f cur c₀
+      ≡ tell m (record { image = img; cache = c }) (cur G) (f G (record { img = img; cache = take m c; erased = 0 }))
+  unfolding behind
+  passed cur c₀ c = rw (ok, g) refl
+
+  module _ (le : m ≤ 32) (c : Cache) where
+    -- what the run begins with
+    abbrev lent : St
+    lent = record { img = img; cache = pointers m c; erased = 0 }
 
     -- a run hands back its end, and the entries past the size as they were
-    pub ran : d ≡ 0 → (c : Cache) (G : Geo) → G ≡ geo_of 4 E (length img) → (img' : List ℕ) (r : Run)
-        → end r.answer (st_of m img' r.mem) ≡ final (f G (st_of m img (record { cache = c; erased = 0 })))
-        → Past m c r.mem.cache
-        → (k : Cursor) → k ≡ cur G (f G (st_of m img (record { cache = c; erased = 0 })))
-        → record {
-          answer = r.answer;
-          cursor = k;
-          image = img';
-          cache = pointers 32 r.mem.cache;
-          erased = r.mem.erased;
-        }
+    pub ran : (new : Storage) (a : Answer) → end a (st_of new) ≡ final (f G lent) → new.slots.count ≡ m → Past m c new.cache
+        → (img' : List ℕ) → img' ≡ new.flash.now.img.now → (cur : Geo → Out → Cursor) (c₀ k : Cursor)
+        → k ≡ cur G (f G lent)
+        → record { answer = a; cursor = k; image = img'; cache = pointers 32 new.cache; erased = new.erased }
         ≡ behind 4 E m v (lent_of img c) f cur c₀
-    ran z c G g img' r R P k hk =
-        let le = (fits 4 E m v img (inl refl) no d hno hd z).cached in
-        let o = f G (st_of m img (record { cache = c; erased = 0 })) in
-        let whole : tell m (lent_of img c) (λ x. k) o
+    ran new a R n P img' hi cur c₀ k hk =
+        let R' = rw n at R in
+        let whole : tell m (lent_of img c) (λ x. k) (f G lent)
         ≡ record {
-          answer = r.answer;
+          answer = a;
           cursor = k;
-          image = img';
-          cache = pointers 32 r.mem.cache;
-          erased = r.mem.erased;
+          image = new.flash.now.img.now;
+          cache = pointers 32 new.cache;
+          erased = new.erased;
         } = ap {B = Handed} (λ (x : End).
         record {
           answer = x.ans;
@@ -79,53 +91,32 @@ module _ (E m v : ℕ) (img : List ℕ) (no : Answer) (d : ℕ) (hno : no ≡ re
           image = x.st.img;
           cache = x.st.cache ++ drop m (pointers 32 c);
           erased = x.st.erased;
-        }) (sym R)
+        }) (sym R')
         ∙ ap {B = Handed}
-        (λ (q : Entries). record { answer = r.answer; cursor = k; image = img'; cache = q; erased = r.mem.erased })
-        (past_pointers c r.mem.cache m le P) in
-        sym (passed z (pointers 32 c) ∙ rw (take-pointers c m le, ← g, ← hk) whole)
+        (λ (q : Entries).
+        record { answer = a; cursor = k; image = new.flash.now.img.now; cache = q; erased = new.erased })
+        (past_pointers c new.cache m le P) in
+        ap {B = Handed} (λ (x : List ℕ).
+        record { answer = a; cursor = k; image = x; cache = pointers 32 new.cache; erased = new.erased }) hi
+        ∙ sym (passed cur c₀ (pointers 32 c) ∙ rw (take-pointers c m le, ← hk) whole)
 
-  -- ---- with power
-
-  module _ (f : Geo → St → Out) (c : Cache) (p : ℕ) where
-    steps-none : d ≢ 0 → steps_behind 4 E m v (lent_of img c) f ≡ []
+    steps_are : steps_behind 4 E m v (lent_of img c) f ≡ (f G lent).steps
     unfolding steps_behind
-    steps-none n = rw (← hno, ne_eqb (number no) 0 (λ z. n (hd ∙ z)))
+    steps_are = rw (ok, take-pointers c m le, ← g) refl
 
-    steps_are : d ≡ 0 → (G : Geo) → G ≡ geo_of 4 E (length img)
-        → steps_behind 4 E m v (lent_of img c) f ≡ (f G (st_of m img (record { cache = c; erased = 0 }))).steps
-    unfolding steps_behind
-    steps_are z G g =
-        let le = (fits 4 E m v img (inl refl) no d hno hd z).cached in
-        rw (← hno, eq-eqb (number no) 0 (sym hd ∙ z), take-pointers c m le, ← g)
-
-    pub refused-cut : d ≢ 0 → RunCut E m v (lent_of img c) f p p (answered no no_cursor (lent_of img c))
-    refused-cut n =
-        record {
-          image = rw (steps-none n);
-          left = rw (steps-none n) (sym (spend_zero p));
-          whole = λ q. refused f (λ G o. no_cursor) no_cursor n (pointers 32 c);
-        }
-
-    pub ran_cut : d ≡ 0 → (b : ℕ) (G : Geo) → G ≡ geo_of 4 E (length img) → (img' : List ℕ) (p' : ℕ) (r : Run)
-        → RunOk G m b (f G) img p img' p' (record { cache = c; erased = 0 }) r
+    -- the same with power
+    pub ran_cut : (p : ℕ) (new : Storage) (a : Answer)
+        → Through G (f G lent) img p new.flash.now.img.now new.flash.now.power (out a (st_of new)) → new.slots.count ≡ m
+        → Past m c new.cache → (img' : List ℕ) (p' : ℕ) → img' ≡ new.flash.now.img.now → p' ≡ new.flash.now.power
         → RunCut E m v (lent_of img c) f p p'
-        (record {
-          answer = r.answer;
-          cursor = no_cursor;
-          image = img';
-          cache = pointers 32 r.mem.cache;
-          erased = r.mem.erased;
-        })
-    ran_cut z b G g img' p' r R =
-        let s = steps_are z G g in
-        let t = thr_cut G (f G (st_of m img (record { cache = c; erased = 0 }))) img img' p p' r.answer
-        (st_of m img' r.mem) R.is in
+        (record { answer = a; cursor = no_cursor; image = img'; cache = pointers 32 new.cache; erased = new.erased })
+    ran_cut p new a R n P img' p' hi hp =
+        let t = thr_cut G (f G lent) img new.flash.now.img.now p new.flash.now.power a (st_of new) R in
         let e : G.page ≡ E = ap (λ (x : Geo). x.page) g in
         record {
-          image = rw (s, ← e) t.0;
-          left = rw s t.1;
-          whole = λ q. ran f (λ G o. no_cursor) no_cursor z c G g img' r (t.2 (rw s at q)) R.past no_cursor refl;
+          image = hi ∙ rw (steps_are, ← e) t.0;
+          left = hp ∙ rw steps_are t.1;
+          whole = λ q. ran new a (t.2 (rw steps_are at q)) n P img' hi (λ G o. no_cursor) no_cursor no_cursor refl;
         }
 
 -- with endless power a call is as it is defined
@@ -134,20 +125,18 @@ pub whole_endless : (E : ℕ) (img : List ℕ) (steps : List FlashStep) (done t 
 whole_endless E img steps done t p' C = C.whole (lasts-endless endless (units steps) (omega arith))
 
 -- a call that reads only takes no cache, and leaves everything
-module _ (E : ℕ) (img : List ℕ) (no : Answer) (d : ℕ) (hno : no ≡ refusal 4 E (length img) 0 0) (hd : d ≡ number no)
-    (f : Geo → St → Out) (cur : Geo → Out → Cursor) (c₀ : Cursor) where
-  pub read_only : d ≡ 0 → (G : Geo) → G ≡ geo_of 4 E (length img) → (a : Answer) (k : Cursor) (c : Entries)
-      → final (f G (record { img = img; cache = []; erased = 0 }))
-      ≡ end a (record { img = img; cache = []; erased = 0 })
-      → cur G (f G (record { img = img; cache = []; erased = 0 })) ≡ k
-      → answered a k (record { image = img; cache = c }) ≡ behind 4 E 0 0 (record { image = img; cache = c }) f cur c₀
-  read_only z G g a k c ha hk =
-      let here : tell 0 (record { image = img; cache = c }) (cur G) (f G (record { img = img; cache = []; erased = 0 }))
-      ≡ answered a k (record { image = img; cache = c }) = rw hk
-      (ap {B = Handed} (λ (x : End).
-      record { answer = x.ans; cursor = k; image = x.st.img; cache = x.st.cache ++ c; erased = x.st.erased })
-      ha) in
-      sym (passed E 0 0 img no d hno hd f cur c₀ z c ∙ rw (← g) here)
+pub read_only : (E : ℕ) (img : List ℕ) → refusal 4 E (length img) 0 0 ≡ Done → (G : Geo) → G ≡ geo_of 4 E (length img)
+    → (f : Geo → St → Out) (cur : Geo → Out → Cursor) (c₀ : Cursor) (a : Answer) (k : Cursor) (c : Entries)
+    → final (f G (record { img = img; cache = []; erased = 0 })) ≡ end a (record { img = img; cache = []; erased = 0 })
+    → cur G (f G (record { img = img; cache = []; erased = 0 })) ≡ k
+    → answered a k (record { image = img; cache = c }) ≡ behind 4 E 0 0 (record { image = img; cache = c }) f cur c₀
+read_only E img ok G g f cur c₀ a k c ha hk =
+    let here : tell 0 (record { image = img; cache = c }) (cur G) (f G (record { img = img; cache = []; erased = 0 }))
+    ≡ answered a k (record { image = img; cache = c }) = rw hk
+    (ap {B = Handed} (λ (x : End).
+    record { answer = x.ans; cursor = k; image = x.st.img; cache = x.st.cache ++ c; erased = x.st.erased })
+    ha) in
+    sym (passed E 0 0 img ok G g f cur c₀ c ∙ here)
 
 -- ---- a walk's start that is done has a first page
 
@@ -182,15 +171,16 @@ module _ (G : Geo) where
       (λ q. on_starts 0 (repair G s₁) (looked G (run_start G)) looked_starts
       (λ e z. absurd (eqb-false (number (repair G s₁).ans) 0 e z)))) (λ q. looked_starts s)
 
-  pub has_first : (n : ℕ) (img img' : List ℕ) (mem : Mem) (r : Run)
-      → end r.answer (st_of n img' r.mem) ≡ final (walk_start G (st_of n img mem)) → HasFirst G img' r.answer
-  has_first n img img' mem r R =
+  pub has_first : (s : St) (img' : List ℕ) (a : Answer) (s' : St) → s'.img ≡ img' → end a s' ≡ final (walk_start G s)
+      → HasFirst G img' a
+  has_first s img' a s' hi R =
       record {
-        is = λ e. let same : is_no 0 (walk_start G (st_of n img mem)).ans ≡ is_no 0 r.answer =
-            ap (λ (x : End). is_no 0 x.ans) (sym R) in
-            let page : is_page G (walk_first G (walk_start G (st_of n img mem)).st.img) ≡ true =
-            walk_starts (st_of n img mem) (eqb-true _ 0 (same ∙ e)) in
-            ltb-true (walk_first G img') G.pages (ap (λ (x : End). is_page G (walk_first G x.st.img)) R ∙ page);
+        is = λ e. let same : is_no 0 (walk_start G s).ans ≡ is_no 0 a = ap (λ (x : End). is_no 0 x.ans) (sym R) in
+            let page : is_page G (walk_first G (walk_start G s).st.img) ≡ true =
+            walk_starts s (eqb-true _ 0 (same ∙ e)) in
+            ltb-true (walk_first G img') G.pages
+            (ap (λ (x : List ℕ). is_page G (walk_first G x)) (sym hi) ∙ ap (λ (x : End). is_page G (walk_first G x.st.img)) R
+            ∙ page);
       }
 
 pub cursor_done : (G : Geo) (a : Answer) (img : List ℕ) (d f p : ℕ) → d ≡ number a → d ≡ 0 → f ≡ walk_first G img

@@ -1,6 +1,6 @@
 -- What the public calls are lent and hand back, as the rules say it.
-use Rattle.std.specs.Prelude.{◌≡◌, ℕ, ◌<◌, List, true}
-use Rattle.rules.specs.declared.{Geo.Geo, Cursor.Cursor, Answer.Answer, Answer.TheVariants.None}
+use Rattle.std.specs.Prelude.{◌≡◌, ℕ, ◌<◌, List, true, Option, None, Some}
+use Rattle.rules.specs.declared.{Geo.Geo, Cursor.Cursor, Answer.Answer, Answer.TheVariants.None as AnswerNone}
 use Rattle.rules.specs.declared.{Answer.TheVariants.Item}
 use Rattle.rules.specs.Bytes.{pick}
 use Rattle.rules.specs.Runs.{St, Out}
@@ -11,8 +11,7 @@ use Rattle.rules.specs.Calls.{Call, Lent, Told as Handed, no_cursor, plainly, ca
 use Rattle.rules.specs.Calls.{steps_of, Cut}
 use Rattle.cache.specs.declared.{Cache.Cache}
 use Rattle.cache.specs.Code.{pointers}
-use Rattle.store.specs.declared.{Run.Run}
-use Rattle.walk.specs.declared.{Step.Step, Step.TheVariants.Ended, Step.TheVariants.Stepped}
+use Rattle.walk.specs.declared.Stepped.{Stepped}
 use Rattle.map.specs.declared.{Told.Told, Started.Started, Stepped.Stepped as Next}
 
 -- an image and all 32 entries of a cache, lent
@@ -55,9 +54,6 @@ CutOk E m c l p p' t = Cut E l.image (steps_of 4 E m c l) (called 4 E m c l) p p
 abbrev pub RunCut : ℕ → ℕ → ℕ → Lent → (Geo → St → Out) → ℕ → ℕ → Handed → Type 0
 RunCut E m v l f p p' t = Cut E l.image (steps_behind 4 E m v l f) (plainly 4 E m v l f) p p' t
 
-abbrev pub told_run : Run → Told
-told_run r = record { answer = r.answer; cache = r.mem.cache; erased = r.mem.erased }
-
 -- where a walk's start is done, there is a first page
 pub record HasFirst (G : Geo) (img : List ℕ) (a : Answer) : Type 0 where
   pub is : is_no 0 a ≡ true → walk_first G img < G.pages
@@ -65,6 +61,6 @@ pub record HasFirst (G : Geo) (img : List ℕ) (a : Answer) : Type 0 where
 abbrev pub first_cursor : Geo → Answer → List ℕ → Cursor
 first_cursor G a img = pick (is_no 0 a) (cursor_at G (walk_first G img)) no_cursor
 
-abbrev pub stepped_by : Cursor → Step → Next
-stepped_by c Ended = record { answer = None; cursor = c }
-stepped_by c (Stepped k a l n) = record { answer = Item k a l; cursor = n }
+abbrev pub stepped_by : Cursor → Option Stepped → Next
+stepped_by c None = record { answer = AnswerNone; cursor = c }
+stepped_by c (Some s) = record { answer = Item s.key s.place s.len; cursor = s.cursor }

@@ -2,20 +2,19 @@
 #![tactic(auto)]
 
 ghost use Rattle.std.specs.Prelude.{◌≡◌, length};
-ghost use Rattle.rules.specs.Held.{Held};
 ghost use Rattle.rules.specs.Answers.{refusal};
 ghost use Rattle.rules.specs.Fetch.{view};
 ghost use Rattle.rules.specs.Calls.{called, fetch_item, store_item, remove_item, remove_all_items, erase_all_pages, fetch_all_items};
 ghost use Rattle.calls.specs.Code.{call_of};
-ghost use Rattle.map.specs.Code.{CutOk, RunCut, lent_of, told_of, told_run, PlainOk, started_of, first_cursor, HasFirst, StepOk, stepped_by};
+ghost use Rattle.map.specs.Code.{CutOk, RunCut, lent_of, told_of, PlainOk, started_of, first_cursor, HasFirst, StepOk, stepped_by};
 
 use cache::Cache;
 use calls::Job;
-use fetch::Mem;
+use fetch::storage::{Slots, Storage};
 use remove::Which;
-use rules::{Answer, Cursor, Geo};
-use store::Run;
-use walk::Step;
+use ring::Pages;
+use ring::flash::Flash;
+use rules::{Answer, Cursor};
 
 // What a call hands back beside the image.
 #[derive(Clone, Copy)]
@@ -45,7 +44,10 @@ pub struct Stepped {
 pub fn try_new(page: usize, image_len: usize, size: usize) -> Answer
     ensures { result ≡ refusal 4 page image_len size 0 }
 {
-    answer::refusal(4, page, image_len, size, 0)
+    match answer::geometry(4, page, image_len, size, 0) {
+        Ok(_) => Answer::Done,
+        Err(no) => no,
+    }
 }
 
 // The len bytes at place, the empty start of the image where they do not lie in it.
@@ -58,20 +60,6 @@ pub fn view(img: &[u8], place: usize, len: usize) -> &[u8]
         }
     }
     &img[0..0]
-}
-
-// A run's end, handed back.
-fn hand_back(run: Run) -> Told
-    ensures { result ≡ told_run run }
-{
-    let m = run.mem;
-    let c = m.cache;
-    let a = run.answer;
-    Told {
-        answer: a,
-        cache: c,
-        erased: m.erased,
-    }
 }
 
 // A job with a cache, behind its refusals.
@@ -87,17 +75,35 @@ fn behind(
     ensures { RunCut page size (length value.now) (lent_of img.old cache) (λ G s. call_of G job value.now s)
         power.old power.new (told_of img.new result) }
 {
-    let no = answer::refusal(4, page, img.len(), size, value.len());
-    if answer::number(no) != 0 {
-        return Told {
-            answer: no,
-            cache,
-            erased: 0,
-        };
-    }
-    let g = answer::geometry(4, page, img.len());
-    let mem = Mem { cache, erased: 0 };
-    hand_back(calls::call(img, g, mem, size, job, value, power))
+    let geo = match answer::geometry(4, page, img.len(), size, value.len()) {
+        Ok(geo) => geo,
+        Err(no) => {
+            return Told {
+                answer: no,
+                cache,
+                erased: 0,
+            };
+        }
+    };
+    let mut flash = Flash {
+        img,
+        geo,
+        power: *power,
+    };
+    let mut storage = Storage {
+        flash: &mut flash,
+        cache,
+        slots: Slots { count: size },
+        erased: 0,
+    };
+    let answer = calls::call(&mut storage, job, value);
+    let told = Told {
+        answer,
+        cache: storage.cache,
+        erased: storage.erased,
+    };
+    *power = flash.power;
+    told
 }
 
 // The newest value of a key; a damaged image is repaired once.
@@ -112,12 +118,10 @@ pub fn fetch_item(img: &mut [u8], page: usize, cache: Cache, size: usize, key: u
 pub fn fetch_plain(img: &[u8], page: usize, key: u32) -> Answer
     ensures { PlainOk page key img.now result }
 {
-    let no = answer::refusal(4, page, img.len(), 0, 0);
-    if answer::number(no) != 0 {
-        return no;
+    match answer::geometry(4, page, img.len(), 0, 0) {
+        Ok(geo) => calls::plain_fetch(&Pages { img, geo }, key),
+        Err(no) => no,
     }
-    let g = answer::geometry(4, page, img.len());
-    calls::plain_fetch(img, g, key)
 }
 
 // A key gets a value.
@@ -217,37 +221,59 @@ pub fn erase_all_cut(
     ensures { CutOk page size erase_all_pages (lent_of img.old cache)
         power.old power.new (told_of img.new result) }
 {
-    let no = answer::refusal(4, page, img.len(), size, 0);
-    if answer::number(no) != 0 {
-        return Told {
-            answer: no,
-            cache,
-            erased: 0,
-        };
-    }
-    let g = answer::geometry(4, page, img.len());
-    let mem = Mem { cache, erased: 0 };
-    hand_back(remove::erase_all(img, g, mem, size, power))
+    let geo = match answer::geometry(4, page, img.len(), size, 0) {
+        Ok(geo) => geo,
+        Err(no) => {
+            return Told {
+                answer: no,
+                cache,
+                erased: 0,
+            };
+        }
+    };
+    let mut flash = Flash {
+        img,
+        geo,
+        power: *power,
+    };
+    let mut storage = Storage {
+        flash: &mut flash,
+        cache,
+        slots: Slots { count: size },
+        erased: 0,
+    };
+    let answer = remove::erase_all(&mut storage);
+    let told = Told {
+        answer,
+        cache: storage.cache,
+        erased: storage.erased,
+    };
+    *power = flash.power;
+    told
 }
 
+// The cursor of a call that is no walk.
+const NO_CURSOR: Cursor = Cursor {
+    first: 0,
+    page: 0,
+    place: 0,
+};
+
 // The cursor of a walk's start with this answer: where it is done, at the data of the first page.
-fn first_cursor(img: &[u8], g: Geo, a: Answer) -> Cursor
-    requires { Held g (length img.now) × HasFirst g img.now a }
-    ensures { result ≡ first_cursor g a img.now }
+fn first_cursor(pages: &Pages<'_>, answer: Answer) -> Cursor
+    requires { HasFirst pages.now.geo pages.now.img.now answer }
+    ensures { result ≡ first_cursor pages.now.geo answer pages.now.img.now }
 {
-    if answer::number(a) != 0 {
-        return Cursor {
-            first: 0,
-            page: 0,
-            place: 0,
-        };
+    if answer::number(answer) != 0 {
+        return NO_CURSOR;
     }
-    let first = walk::walk_first(img, g);
-    let place = ring::data_at(g, first, img.len());
+    let Some(first) = walk::walk_first(pages) else {
+        return NO_CURSOR;
+    };
     Cursor {
         first,
         page: first,
-        place,
+        place: pages.data_at(first),
     }
 }
 
@@ -255,47 +281,50 @@ fn first_cursor(img: &[u8], g: Geo, a: Answer) -> Cursor
 pub fn fetch_all_items(img: &mut [u8], page: usize, cache: Cache, size: usize) -> Started
     ensures { started_of img.new result ≡ called 4 page size fetch_all_items (lent_of img.old cache) }
 {
-    let no = answer::refusal(4, page, img.len(), size, 0);
-    if answer::number(no) != 0 {
-        return Started {
-            answer: no,
-            cursor: Cursor {
-                first: 0,
-                page: 0,
-                place: 0,
-            },
-            cache,
-            erased: 0,
-        };
-    }
-    let g = answer::geometry(4, page, img.len());
-    let mem = Mem { cache, erased: 0 };
-    let mut power = words::ENDLESS;
-    let run = calls::call(img, g, mem, size, Job::Start, b"", &mut power);
-    let m = run.mem;
-    let c = m.cache;
-    let a = run.answer;
-    let cursor = first_cursor(img, g, a);
+    let geo = match answer::geometry(4, page, img.len(), size, 0) {
+        Ok(geo) => geo,
+        Err(no) => {
+            return Started {
+                answer: no,
+                cursor: NO_CURSOR,
+                cache,
+                erased: 0,
+            };
+        }
+    };
+    let mut flash = Flash {
+        img,
+        geo,
+        power: words::ENDLESS,
+    };
+    let mut storage = Storage {
+        flash: &mut flash,
+        cache,
+        slots: Slots { count: size },
+        erased: 0,
+    };
+    let answer = calls::call(&mut storage, Job::Start, b"");
+    let cursor = first_cursor(&storage.flash.pages(), answer);
     Started {
-        answer: a,
+        answer,
         cursor,
-        cache: c,
-        erased: m.erased,
+        cache: storage.cache,
+        erased: storage.erased,
     }
 }
 
 // A step, handed back: the end keeps the cursor.
-fn hand_step(step: Step, cursor: Cursor) -> Stepped
+fn hand_step(step: Option<walk::Stepped>, cursor: Cursor) -> Stepped
     ensures { result ≡ stepped_by cursor step }
 {
     match step {
-        Step::Ended => Stepped {
+        None => Stepped {
             answer: Answer::None,
             cursor,
         },
-        Step::Stepped(key, place, len, next) => Stepped {
-            answer: Answer::Item(key, place, len),
-            cursor: next,
+        Some(next) => Stepped {
+            answer: Answer::Item(next.key, next.place, next.len),
+            cursor: next.cursor,
         },
     }
 }
@@ -304,10 +333,8 @@ fn hand_step(step: Step, cursor: Cursor) -> Stepped
 pub fn next_item(img: &[u8], page: usize, cursor: Cursor) -> Stepped
     ensures { StepOk page cursor img.now result }
 {
-    let no = answer::refusal(4, page, img.len(), 0, 0);
-    if answer::number(no) != 0 {
-        return Stepped { answer: no, cursor };
+    match answer::geometry(4, page, img.len(), 0, 0) {
+        Ok(geo) => hand_step(walk::walk_step(&Pages { img, geo }, cursor), cursor),
+        Err(no) => Stepped { answer: no, cursor },
     }
-    let g = answer::geometry(4, page, img.len());
-    hand_step(walk::walk_step(img, g, cursor), cursor)
 }

@@ -1,109 +1,65 @@
 -- A run that repairs once, from the runs it is made of; the same for every call.
-use mathlib.Core.Path.{◌≡◌}
-use mathlib.Core.Bool.{Bool, true, false}
+use mathlib.Core.Path.{◌≡◌, refl}
+use mathlib.Core.Bool.{true, false}
 use Prim.Native.Nat.{ℕ, ◌+◌}
 use native.Mathlib.Omega.{arith}
-use mathlib.Core.List.{List}
-use Rattle.rules.specs.declared.{Geo.Geo, Answer.TheVariants.Corrupted}
-use Rattle.rules.specs.Bytes.{pick}
+use Rattle.rules.specs.declared.{Answer.Answer, Answer.TheVariants.Corrupted}
 use Rattle.rules.specs.Pages.{any_corrupted}
-use Rattle.rules.specs.Cache.{clear}
 use Rattle.rules.specs.Answers.{is_no}
 use Rattle.rules.specs.Runs.{St, Out, out, cleared, clear_corrupted, on_done}
 use Rattle.rules.specs.Store.{repair, looked, auto_repair}
-use Rattle.laws.specs.Through.{Through, thr_refl, thr_to, thr_then, thr_on}
-use Rattle.cache.specs.Code.{pointers}
-use Rattle.fetch.specs.declared.{Mem.Mem}
-use Rattle.fetch.specs.Code.{st_of, Kept}
-use Rattle.fetch.proofs.Laws.{past_refl, past_trans, kept_refl}
-use Rattle.store.specs.declared.{Run.Run}
-use Rattle.store.specs.Code.{RunOk}
+use Rattle.fetch.specs.declared.storage.Storage.{Storage}
+use Rattle.fetch.specs.Code.{st_of, Came, RunOk}
+use Rattle.fetch.proofs.Runs.{came_refl, came_then, came_more, came_from, came_to, came_still, came_on}
 use Rattle.mend.specs.Code.{SettledOk, again_of}
 
 -- ---- the look at all page states
 
-module _ (G : Geo) (n b : ℕ) (f : St → Out) (img : List ℕ) (p : ℕ) (mem : Mem) (t : Bool)
-    (ht : t ≡ any_corrupted G img) where
-  pub looked_bad : t ≡ true → RunOk G n b (looked G f) img p img p mem (record { mem = mem; answer = Corrupted })
-  looked_bad e =
-      record {
-        is = rw (← ht, e) (thr_refl G (out Corrupted (st_of n img mem)) img p);
-        past = past_refl n mem.cache;
-        erased = omega arith;
-      }
+module _ (b : ℕ) (f : St → Out) (old : Storage) where
+  pub looked_bad : any_corrupted old.flash.now.geo old.flash.now.img.now ≡ true
+      → RunOk b (looked old.flash.now.geo f) old old Corrupted
+  looked_bad e = came_more (omega arith) (came_from (rw e refl) (came_refl old (out Corrupted (st_of old))))
 
-  pub looked_run : (img' : List ℕ) (p' : ℕ) (r : Run) → t ≡ false → RunOk G n b f img p img' p' mem r
-      → RunOk G n b (looked G f) img p img' p' mem r
-  looked_run img' p' r e R = record { is = rw (← ht, e) R.is; past = R.past; erased = R.erased }
+  pub looked_run : (new : Storage) (a : Answer) → any_corrupted old.flash.now.geo old.flash.now.img.now ≡ false
+      → RunOk b f old new a → RunOk b (looked old.flash.now.geo f) old new a
+  looked_run new a e R = came_from (rw e refl) R
 
 -- ---- no. 8 leaves the cache empty
 
-module _ (n : ℕ) (run : Run) (b : Bool) (hb : b ≡ is_no 8 run.answer) where
-  pub settle_yes : (m : Mem) → b ≡ true → pointers n m.cache ≡ clear (pointers n run.mem.cache)
-      → Kept n run.mem m
-      → SettledOk n run (record { mem = m; answer = Corrupted })
-  settle_yes m e hc hk = record { is = λ img. rw (← hb, e, hc, hk.erased); kept = hk }
-
-  pub settle_no : b ≡ false → SettledOk n run (record { mem = run.mem; answer = run.answer })
-  settle_no e = record { is = λ img. rw (← hb, e); kept = kept_refl n run.mem }
-
-settled : (G : Geo) (n : ℕ) (o : Out) (img img' : List ℕ) (p p' : ℕ) (run r : Run)
-    → Through G o img p img' p' (out run.answer (st_of n img' run.mem)) → SettledOk n run r
-    → Through G (clear_corrupted o) img p img' p' (out r.answer (st_of n img' r.mem))
-settled G n o img img' p p' run r T S =
-    thr_to G (thr_on G 8 o (λ s. out Corrupted (cleared s)) img img' p p' run.answer (st_of n img' run.mem) T)
-    (S.is img')
+settled : (b : ℕ) (o : Out) (old mid new : Storage) (a : Answer) → Came b old mid o (out a (st_of mid))
+    → SettledOk a mid new → Came b old new (clear_corrupted o) (out a (st_of new))
+settled b o old mid new a R S =
+    came_more (omega arith) (came_then (came_on 8 (λ s. out Corrupted (cleared s)) a R)
+    (came_from S.is (came_still mid new (out a (st_of new)) S.kept)))
 
 -- ---- the repair and the run after it
 
-module _ (G : Geo) (n b c : ℕ) (f : St → Out) (img img₁ : List ℕ) (p p₁ : ℕ) (mem : Mem) (r₁ : Run)
-    (R₁ : RunOk G n c (repair G) img p img₁ p₁ mem r₁) where
-  abbrev mends : Out
-  mends = repair G (st_of n img mem)
-
-  both_are : Through G (on_done mends (looked G f)) img p img₁ p₁
-      (pick (is_no 0 r₁.answer) (looked G f (st_of n img₁ r₁.mem)) (out r₁.answer (st_of n img₁ r₁.mem)))
-  both_are = thr_on G 0 mends (looked G f) img img₁ p p₁ r₁.answer (st_of n img₁ r₁.mem) R₁.is
-
+module _ (b c : ℕ) (f : St → Out) (old mid : Storage) (a : Answer) (R : RunOk c (repair old.flash.now.geo) old mid a) where
   -- the repair is corrupt: there is no second run
-  pub again_bad : (r : Run) → is_no 0 r₁.answer ≡ false → SettledOk n r₁ r
-      → RunOk G n (c + b) (again_of G f) img p img₁ p₁ mem r
-  again_bad r e S = record {
-    is = settled G n (on_done mends (looked G f)) img img₁ p p₁ r₁ r (thr_to G both_are (rw e)) S;
-    past = past_trans n mem.cache r₁.mem.cache r.mem.cache R₁.past S.kept.past;
-    erased = omega (arith, R₁.erased, S.kept.erased);
-  }
+  pub again_bad : (new : Storage) → is_no 0 a ≡ false → SettledOk a mid new
+      → RunOk (c + b) (again_of old.flash.now.geo f) old new a
+  again_bad new e S =
+      let o = on_done (repair old.flash.now.geo (st_of old)) (looked old.flash.now.geo f) in
+      came_more (omega arith)
+      (settled c o old mid new a (came_to (came_on 0 (looked old.flash.now.geo f) a R) (rw e refl)) S)
 
-  pub again_run : (img₂ : List ℕ) (p₂ : ℕ) (r₂ r : Run) → is_no 0 r₁.answer ≡ true
-      → RunOk G n b (looked G f) img₁ p₁ img₂ p₂ r₁.mem r₂ → SettledOk n r₂ r
-      → RunOk G n (c + b) (again_of G f) img p img₂ p₂ mem r
-  again_run img₂ p₂ r₂ r e R₂ S =
-      record {
-        is = settled G n (on_done mends (looked G f)) img img₂ p p₂ r₂ r (thr_then G (thr_to G both_are (rw e)) R₂.is)
-            S;
-        past = past_trans n mem.cache r₁.mem.cache r.mem.cache R₁.past
-            (past_trans n r₁.mem.cache r₂.mem.cache r.mem.cache R₂.past S.kept.past);
-        erased = omega (arith, R₁.erased, R₂.erased, S.kept.erased);
-      }
+  pub again_run : (last new : Storage) (a' : Answer) → is_no 0 a ≡ true
+      → RunOk b (looked old.flash.now.geo f) mid last a' → SettledOk a' last new
+      → RunOk (c + b) (again_of old.flash.now.geo f) old new a'
+  again_run last new a' e R' S =
+      settled (c + b) (on_done (repair old.flash.now.geo (st_of old)) (looked old.flash.now.geo f)) old last new a'
+      (came_then (came_to (came_on 0 (looked old.flash.now.geo f) a R) (rw e refl)) R') S
 
 -- ---- a run that repairs once on Corrupted and runs again
 
-module _ (G : Geo) (n b c : ℕ) (f : St → Out) (img img₁ : List ℕ) (p p₁ : ℕ) (mem : Mem) (r₁ : Run)
-    (R₁ : RunOk G n b (looked G f) img p img₁ p₁ mem r₁) where
-  first_is : Through G (auto_repair G f (st_of n img mem)) img p img₁ p₁
-      (pick (is_no 8 r₁.answer) (again_of G f (st_of n img₁ r₁.mem)) (out r₁.answer (st_of n img₁ r₁.mem)))
+module _ (b c : ℕ) (f : St → Out) (old mid : Storage) (a : Answer)
+    (R : RunOk b (looked old.flash.now.geo f) old mid a) where
+  pub auto_first : is_no 8 a ≡ false → RunOk (b + (c + b)) (auto_repair old.flash.now.geo f) old mid a
   unfolding auto_repair
-  first_is =
-      thr_on G 8 (looked G f (st_of n img mem)) (again_of G f) img img₁ p p₁ r₁.answer (st_of n img₁ r₁.mem) R₁.is
+  auto_first e = came_more (omega arith) (came_to (came_on 8 (again_of old.flash.now.geo f) a R) (rw e refl))
 
-  pub auto_first : is_no 8 r₁.answer ≡ false → RunOk G n (b + (c + b)) (auto_repair G f) img p img₁ p₁ mem r₁
-  auto_first e = record { is = thr_to G first_is (rw e); past = R₁.past; erased = omega (arith, R₁.erased) }
-
-  pub auto_again : (img₂ : List ℕ) (p₂ : ℕ) (r : Run) → is_no 8 r₁.answer ≡ true
-      → RunOk G n (c + b) (again_of G f) img₁ p₁ img₂ p₂ r₁.mem r
-      → RunOk G n (b + (c + b)) (auto_repair G f) img p img₂ p₂ mem r
-  auto_again img₂ p₂ r e R = record {
-    is = thr_then G (thr_to G first_is (rw e)) R.is;
-    past = past_trans n mem.cache r₁.mem.cache r.mem.cache R₁.past R.past;
-    erased = omega (arith, R₁.erased, R.erased);
-  }
+  pub auto_again : (new : Storage) (a' : Answer) → is_no 8 a ≡ true
+      → RunOk (c + b) (again_of old.flash.now.geo f) mid new a'
+      → RunOk (b + (c + b)) (auto_repair old.flash.now.geo f) old new a'
+  unfolding auto_repair
+  auto_again new a' e R' = came_then (came_to (came_on 8 (again_of old.flash.now.geo f) a R) (rw e refl)) R'

@@ -8,89 +8,65 @@ use mathlib.Core.List.{List, ◌∷◌, ◌++◌}
 use lib.ListN.{length, take, drop, length-append, length-drop}
 use lib.Seq.{length-take-le}
 use borrow.Author.Tests.{ne_eqb, eq-eqb}
+use Rattle.std.specs.Prelude.{Option, Some, Result, Ok, Err, IfOk, IsErr}
 use Rattle.rules.specs.declared.{Geo.Geo, Answer.TheVariants.Done, Answer.TheVariants.Corrupted}
-use Rattle.rules.specs.Held.{Held}
 use Rattle.rules.specs.Bytes.{pick, all_ff}
-use Rattle.rules.specs.Items.{item_of, is_present, Entry, size, pad, presents, Scan, scan, read}
+use Rattle.rules.specs.Items.{is_present, Entry, size, pad, presents, Scan, scan, read}
 use Rattle.rules.specs.Pages.{blank_at, data_at, end_at, items_of}
-use Rattle.rules.specs.Cache.{note}
-use Rattle.rules.specs.Runs.{St, Out, out, noting, programming, erasing}
+use Rattle.rules.specs.Answers.{is_no}
+use Rattle.rules.specs.Runs.{St, Out, out, noting, erasing}
 use Rattle.rules.specs.Fetch.{Found, corrupt, missing, found, fetch_in}
-use Rattle.rules.specs.Store.{span_of, copy_of, migrate_one, migrate_all, migrate}
+use Rattle.rules.specs.Store.{migrate_one, migrate_all, migrate}
+use Rattle.rules.specs.Held.{Held}
 use Rattle.laws.specs.Geometry.{page_in}
 use Rattle.laws.specs.Encoding.{length-pad}
 use Rattle.laws.specs.Reading.{le_size}
-use Rattle.laws.specs.Power.{Wrote, wrote_window, Blanked}
-use Rattle.laws.specs.Through.{Through, thr_refl, thr_from, thr_to, thr_then, thr_program, thr_erase, thr_on}
-use Rattle.items.specs.declared.{Spot.TheVariants.Corrupt, Spot.TheVariants.Missing, Spot.TheVariants.At, Read.Read}
+use Rattle.laws.specs.Power.{Wrote, wrote_window}
+use Rattle.laws.specs.Through.{thr_refl, thr_from, thr_to, thr_then, thr_program, thr_erase, thr_on}
+use Rattle.items.specs.declared.{Spot.Spot, Corrupt.Corrupt, Read.Read}
 use Rattle.items.specs.declared.{Read.TheVariants.End as ReadEnd, Read.TheVariants.Skip, Read.TheVariants.Item}
 use Rattle.items.specs.Code.{part, told, scan_in, read_of}
 use Rattle.items.proofs.Laws.{in_none, by_end, by_skip, by_item}
 use Rattle.cache.specs.Code.{pointers}
+use Rattle.ring.specs.Flash.{Ran, Programmed}
 use Rattle.ring.proofs.Laws.{scan_is}
-use Rattle.fetch.specs.declared.{Mem.Mem, Fetched.Fetched}
-use Rattle.fetch.specs.Code.{st_of, Kept, Told, got_of, told_got}
-use Rattle.fetch.proofs.Laws.{kept_refl, kept_trans}
-use Rattle.migrate.specs.declared.{Moved.Moved}
-use Rattle.migrate.specs.Code.{entry_at, go_on, one_of, step_of, CopiedOk, Around, MovedOk, ItemOk, run_of, end_of}
+use Rattle.fetch.specs.declared.storage.Storage.{Storage}
+use Rattle.fetch.specs.Code.{st_of, Keeps, KeepsImage, ErasesPage, RunOk}
+use Rattle.fetch.proofs.Laws.{keeps_refl, keeps_trans, same_trans}
+use Rattle.migrate.specs.Code.{entry_at, go_on, copied, one_of, step_of, StepOk, run_of, AllOk, ended}
+
+-- a run that changes no byte
+ran_still : (s t : Storage) → KeepsImage s t → (o o' : Out) → o ≡ o' → Ran s.flash.now t.flash.now o o'
+ran_still s t K o o' q =
+    rw (K.image, K.power) (thr_from s.flash.now.geo q (thr_refl s.flash.now.geo o' s.flash.now.img.now s.flash.now.power))
+
+-- a step that changes nothing
+pub still : (f : St → (ℕ → St → Out) → Out) (wp z : ℕ) (s t : Storage) (r : Result ℕ Corrupt) → KeepsImage s t
+    → ((k : ℕ → St → Out) → f (st_of s) k ≡ go_on r (st_of t) k) → ((n : ℕ) → r ≡ Ok n → n ≡ wp)
+    → StepOk f wp z s t r
+still f wp z s t r K q h =
+    record {
+      run = λ k. ran_still s t K _ _ (q k);
+      keeps = K.keeps;
+      erased = K.erased;
+      others = λ a m d. ap (λ x. take m (drop a x)) K.image;
+      next = within r h;
+    }
+  where
+    within : (r : Result ℕ Corrupt) → ((n : ℕ) → r ≡ Ok n → n ≡ wp) → IfOk r (λ n. (wp ≤ n) × (n ≤ wp + z))
+    within (Ok n) h = let e = h n refl in (omega arith, omega arith)
+    within (Err e) h = tt
+
+pub image_refl : (s : Storage) → KeepsImage s s
+image_refl s = record { keeps = keeps_refl s; image = refl; power = refl; erased = refl }
 
 -- ---- a copy
 
-module _ (G : Geo) (n : ℕ) (img : List ℕ) (mem : Mem) (key a L wp span : ℕ) (b : Bool)
-    (hs : span ≡ size G.word L) (hb : b ≡ all_ff (take (wp + span - wp) (drop wp img))) where
-  blank_is : b ≡ blank_at img wp (size G.word L)
-  blank_is = let q : wp + span - wp ≡ span = omega arith in hb ∙ ap (λ (x : ℕ). all_ff (take x (drop wp img))) (q ∙ hs)
-
-  pub copy_no : (p : ℕ) → b ≡ false
-      → CopiedOk G n img p img p mem key a L wp (record { mem = mem; to = wp; ok = false })
-  copy_no p e =
-      record {
-        ok_is = sym e ∙ blank_is;
-        yes = λ q. let z : ◌≡◌ {A = ℕ} 0 1 = cc in absurd (omega arith);
-        no = λ q. (refl, refl, refl);
-        to_is = refl;
-        kept = kept_refl n mem;
-      }
-
-  pub copy_yes : (p p' : ℕ) (m : Mem) → pointers n m.cache ≡ note key wp (pointers n mem.cache) → Kept n mem m
-      → (img' : List ℕ) → b ≡ true → Wrote img p img' p' wp (take (8 + L) (drop a img) ++ pad G.word L)
-      → CopiedOk G n img p img' p' mem key a L wp (record { mem = m; to = wp + span; ok = true })
-  copy_yes p p' m hv hk img' e q =
-      record {
-        ok_is = sym e ∙ blank_is;
-        yes = λ z. (q, hv);
-        no = λ q. let z : ◌≡◌ {A = ℕ} 0 1 = cc in absurd (omega arith);
-        to_is = rw hs;
-        kept = hk;
-      }
-
--- ---- a step of the definition, by what the search told
-
-module _ (G : Geo) (e : Entry) (wp : ℕ) (s : St) (k : ℕ → St → Out) where
-  mv_missing : (x : Found) → Missing ≡ told x → migrate_one G e wp s k x ≡ out Corrupted s
-  mv_missing corrupt q = refl
-  mv_missing missing q = refl
-  mv_missing (found f) q = let z : ◌≡◌ {A = ℕ} 0 1 = cc in absurd (omega arith)
-
-  mv_corrupt : (x : Found) → Corrupt ≡ told x → migrate_one G e wp s k x ≡ out Corrupted s
-  mv_corrupt corrupt q = refl
-  mv_corrupt missing q = refl
-  mv_corrupt (found f) q = let z : ◌≡◌ {A = ℕ} 0 1 = cc in absurd (omega arith)
-
-  mv_other : (x : Found) (p l : ℕ) → At p l ≡ told x → (p ≡ e.at → ⊥) → migrate_one G e wp s k x ≡ k wp s
-  mv_other corrupt p l q h = let z : ◌≡◌ {A = ℕ} 0 1 = cc in absurd (omega arith)
-  mv_other missing p l q h = let z : ◌≡◌ {A = ℕ} 0 1 = cc in absurd (omega arith)
-  mv_other (found f) p l q h = let z : p ≡ f.at = cc in rw (ne_eqb f.at e.at (λ (y : f.at ≡ e.at). h (z ∙ y)))
-
-  abbrev copied : Out
-  copied =
-      pick (blank_at s.img wp (span_of G e))
-      (programming wp (copy_of G s.img e) (noting e.it.key wp s) (k (wp + span_of G e))) (out Corrupted s)
-
-  mv_same : (x : Found) (p l : ℕ) → At p l ≡ told x → p ≡ e.at → migrate_one G e wp s k x ≡ copied
-  mv_same corrupt p l q h = let z : ◌≡◌ {A = ℕ} 0 1 = cc in absurd (omega arith)
-  mv_same missing p l q h = let z : ◌≡◌ {A = ℕ} 0 1 = cc in absurd (omega arith)
-  mv_same (found f) p l q h = let z : p ≡ f.at = cc in rw (eq-eqb f.at e.at (sym z ∙ h))
+pub blank_is : (img : List ℕ) (wp span z : ℕ) (b : Bool) → span ≡ z
+    → b ≡ all_ff (take (wp + span - wp) (drop wp img)) → b ≡ blank_at img wp z
+blank_is img wp span z b hs hb =
+    let q : wp + span - wp ≡ span = omega arith in
+    hb ∙ ap (λ (x : ℕ). all_ff (take x (drop wp img))) (q ∙ hs)
 
 copy_length : (w : ℕ) (img : List ℕ) (a L : ℕ) → 0 < w → a + 8 + L ≤ length img
     → length (take (8 + L) (drop a img) ++ pad w L) ≡ size w L
@@ -100,106 +76,129 @@ copy_length w img a L hw h =
     length-take-le (8 + L) (drop a img) (rw length-drop (omega arith)) in
     omega (arith, length-append (take (8 + L) (drop a img)) (pad w L), length-pad w L hw)
 
--- ---- the code's step for a Present item
+module _ (key a L wp : ℕ) (old : Storage) where
+  abbrev z : ℕ
+  z = size old.flash.now.geo.word L
 
-module _ (G : Geo) (n : ℕ) (img : List ℕ) (mem : Mem) (a e L wp key : ℕ) (f : Fetched)
-    (hk : key ≡ (item_of (part img a e) L).key) (hf : got_of n img f ≡ told_got (fetch_in G key (st_of n img mem)))
-    (hm : Kept n mem f.mem) where
-  st_is : (fetch_in G key (st_of n img mem)).st ≡ st_of n img f.mem
-  st_is = sym (ap (λ (t : Told). t.st) hf)
+  pub copy_no : false ≡ blank_at old.flash.now.img.now wp z
+      → StepOk (copied old.flash.now.geo key a L wp) wp z old old (Err (record {}))
+  copy_no e = still _ wp z old old _ (image_refl old) (λ k. rw (← e) refl) (λ n q. cc)
 
-  spot_is : f.spot ≡ told (fetch_in G key (st_of n img mem)).res
-  spot_is = ap (λ (t : Told). t.spot) hf
-
-  by : (k : ℕ → St → Out) (o : Out)
-      → migrate_one G (entry_at img a e L) wp (st_of n img f.mem) k (fetch_in G key (st_of n img mem)).res ≡ o
-      → one_of G (entry_at img a e L) wp (st_of n img mem) k ≡ o
-  by k o h =
-      sym (ap (λ (y : ℕ). migrate_one G (entry_at img a e L) wp (fetch_in G y (st_of n img mem)).st k
-      (fetch_in G y (st_of n img mem)).res) hk)
-      ∙ ap (λ (s : St). migrate_one G (entry_at img a e L) wp s k (fetch_in G key (st_of n img mem)).res) st_is ∙ h
-
-  stands : {o o' : Out} (p : ℕ) → o ≡ o' → Through G o img p img p o'
-  stands {o} {o'} p q = thr_from G q (thr_refl G o' img p)
-
-  stays : (b : Bool) → Around G n img img mem a e L wp (record { mem = f.mem; to = wp; ok = b })
-  stays b = record { kept = hm; rest = refl; low = omega arith; high = omega arith }
-
-  pub move_bad : (p : ℕ) → (f.spot ≡ Missing) ⊎ (f.spot ≡ Corrupt)
-      → MovedOk G n img p img p mem a e L wp (record { mem = f.mem; to = wp; ok = false })
-  move_bad p d =
-      record {
-        step = λ k. stands p (by k _ (⊎_elim
-            (λ (q : f.spot ≡ Missing). mv_missing G (entry_at img a e L) wp (st_of n img f.mem) k
-            (fetch_in G key (st_of n img mem)).res (sym q ∙ spot_is))
-            (λ (q : f.spot ≡ Corrupt). mv_corrupt G (entry_at img a e L) wp (st_of n img f.mem) k
-            (fetch_in G key (st_of n img mem)).res (sym q ∙ spot_is)) d));
-        around = stays false;
-      }
-
-  pub move_not : (pw p l : ℕ) → f.spot ≡ At p l → (p ≡ a → ⊥)
-      → MovedOk G n img pw img pw mem a e L wp (record { mem = f.mem; to = wp; ok = true })
-  move_not pw p l q ne =
-      record {
-        step = λ k. stands pw (by k _
-            (mv_other G (entry_at img a e L) wp (st_of n img f.mem) k (fetch_in G key (st_of n img mem)).res p l
-            (sym q ∙ spot_is) ne));
-        around = stays true;
-      }
-
-  module _ (img' : List ℕ) (pw pw' : ℕ) (r : Moved) (C : CopiedOk G n img pw img' pw' f.mem key a L wp r)
-      (hw : 0 < G.word) (ha : a + size G.word L ≤ e) (hl : a + 8 + L ≤ length img)
-      (hwp : wp + size G.word L ≤ length img) (apart : (wp + size G.word L ≤ a) ⊎ (e ≤ wp)) where
+  module _ (mid new : Storage) (noted : st_of mid ≡ noting key wp (st_of old)) (K : KeepsImage old mid)
+      (P : Programmed mid.flash.now new.flash.now wp
+      (take (8 + L) (drop a mid.flash.now.img.now) ++ pad mid.flash.now.geo.word L))
+      (lent : new.flash.ghost_name ≡ mid.flash.ghost_name) (slots : new.slots ≡ mid.slots) (cache : new.cache ≡ mid.cache) (erased : new.erased ≡ mid.erased) where
     abbrev bytes : List ℕ
-    bytes = take (8 + L) (drop a img) ++ pad G.word L
+    bytes = take (8 + L) (drop a old.flash.now.img.now) ++ pad old.flash.now.geo.word L
 
-    run_is : (k : ℕ → St → Out) (b : Bool) → r.ok ≡ b
-        → Through G (copied G (entry_at img a e L) wp (st_of n img f.mem) k) img pw img' pw'
-        (go_on r (st_of n img' r.mem) k)
-    run_is k true o =
-        let z : blank_at img wp (size G.word L) ≡ true = sym C.ok_is ∙ o in
-        let t : wp + size G.word L ≡ r.to = sym (rw o at C.to_is) in
-        let y = C.yes o in
-        let c : note (item_of (part img a e) L).key wp (pointers n f.mem.cache) ≡ pointers n r.mem.cache =
-        sym (y.1 ∙ ap (λ (x : ℕ). note x wp (pointers n f.mem.cache)) hk) in
-        let m : f.mem.erased ≡ r.mem.erased = sym C.kept.erased in
-        rw (o, z) (thr_to G (thr_program G wp bytes (noting (item_of (part img a e) L).key wp (st_of n img f.mem))
-        (k (wp + size G.word L)) img' pw pw' y.0) (rw (c, m) (ap (λ (x : ℕ). k x (st_of n img' r.mem)) t)))
-    run_is k false o =
-        let z : blank_at img wp (size G.word L) ≡ false = sym C.ok_is ∙ o in
-        let y = C.no o in
-        let m : f.mem.erased ≡ r.mem.erased = sym C.kept.erased in
-        rw (o, z, y.0, y.1, y.2, ← m) (thr_refl G (out Corrupted (st_of n img f.mem)) img pw)
+    wrote : Wrote old.flash.now.img.now old.flash.now.power new.flash.now.img.now new.flash.now.power wp bytes
+    wrote =
+        let w = P.wrote in
+        rw K.keeps.same.geo at (rw K.power at (rw K.image at w))
 
-    around : (b : Bool) → r.ok ≡ b → Around G n img img' mem a e L wp r
-    around true o =
-        let t : r.to ≡ wp + size G.word L = rw o at C.to_is in
-        let lc = copy_length G.word img a L hw hl in
+    state : record { img = new.flash.now.img.now; cache = (noting key wp (st_of old)).cache; erased = old.erased }
+        ≡ st_of new
+    state =
+        let c : (noting key wp (st_of old)).cache ≡ pointers mid.slots.count mid.cache = ap (λ (x : St). x.cache) (sym noted) in
+        rw (c, slots, cache, erased, K.erased) refl
+
+    pub copy_yes : (span : ℕ) → span ≡ z → true ≡ blank_at old.flash.now.img.now wp z → 0 < old.flash.now.geo.word
+        → a + 8 + L ≤ length old.flash.now.img.now → wp + z ≤ length old.flash.now.img.now
+        → StepOk (copied old.flash.now.geo key a L wp) wp z old new (Ok (wp + span))
+    copy_yes span hs e hw ha hwp =
+        let G = old.flash.now.geo in
+        let l = copy_length G.word old.flash.now.img.now a L hw ha in
         record {
-          kept = kept_trans n mem f.mem r.mem hm C.kept;
-          rest = wrote_window img img' bytes pw pw' wp (C.yes o).0 (omega arith) (a + size G.word L)
-              (e - (a + size G.word L))
-              (⊎_elim (λ (y : wp + size G.word L ≤ a). inr (omega arith)) (λ (y : e ≤ wp). inl (omega arith)) apart);
-          low = omega arith;
-          high = omega arith;
-        }
-    around false o =
-        let t : r.to ≡ wp = rw o at C.to_is in
-        record {
-          kept = kept_trans n mem f.mem r.mem hm C.kept;
-          rest = rw (C.no o).0;
-          low = omega arith;
-          high = omega arith;
+          run = λ k. rw (← e, hs) (thr_to G (thr_program G wp bytes (noting key wp (st_of old)) (k (wp + z))
+              new.flash.now.img.now old.flash.now.power new.flash.now.power wrote) (ap (k (wp + z)) state));
+          keeps = record {
+            lent = lent ∙ K.keeps.lent;
+            same = same_trans old.flash.now mid.flash.now new.flash.now K.keeps.same P.same;
+            slots = slots ∙ K.keeps.slots;
+            past = rw cache K.keeps.past;
+          };
+          erased = erased ∙ K.erased;
+          others = λ b m d. wrote_window old.flash.now.img.now new.flash.now.img.now bytes old.flash.now.power new.flash.now.power wp
+              wrote (omega arith) b m (⊎_elim (λ (y : b + m ≤ wp). inl y) (λ (y : wp + z ≤ b). inr (omega arith)) d);
+          next = (omega arith, omega arith);
         }
 
-    pub move_copy : (p l : ℕ) → f.spot ≡ At p l → p ≡ a → MovedOk G n img pw img' pw' mem a e L wp r
-    move_copy p l q pa =
+-- ---- an item
+
+-- a run that ends goes on nowhere
+on_err : (r : Result ℕ Corrupt) → IsErr r → (s : St) (k : ℕ → St → Out) → go_on r s k ≡ out Corrupted s
+on_err (Ok n) h s k = cc
+on_err (Err e) h s k = refl
+
+not_ok : (r : Result ℕ Corrupt) → IsErr r → (n wp : ℕ) → r ≡ Ok n → n ≡ wp
+not_ok (Ok n) h m wp q = cc
+not_ok (Err e) h m wp q = cc
+
+module _ (a e L wp : ℕ) (old : Storage) where
+  abbrev entry : Entry
+  entry = entry_at old.flash.now.img.now a e L
+
+  abbrev span : ℕ
+  span = size old.flash.now.geo.word L
+
+  pub not_present : false ≡ is_present entry.it.kind → StepOk (step_of old.flash.now.geo entry wp) wp span old old (Ok wp)
+  not_present p = still _ wp span old old (Ok wp) (image_refl old) (λ k. rw (← p) refl) (λ n q. cc)
+
+  module _ (key : ℕ) (mid : Storage) (p : true ≡ is_present entry.it.kind) (hk : key ≡ entry.it.key)
+      (res : Result (Option Spot) Corrupt) (hr : res ≡ told (fetch_in old.flash.now.geo key (st_of old)).res)
+      (hs : st_of mid ≡ (fetch_in old.flash.now.geo key (st_of old)).st) (K : KeepsImage old mid) where
+    step_is : (k : ℕ → St → Out) → step_of old.flash.now.geo entry wp (st_of old) k
+        ≡ migrate_one old.flash.now.geo entry wp (st_of mid) k (fetch_in old.flash.now.geo key (st_of old)).res
+    step_is k = rw (← p, ← hk, ← hs) refl
+
+    pub not_found : (r : Result ℕ Corrupt) → IsErr r → ((s : Spot) → res ≡ Ok (Some s) → ⊥)
+        → StepOk (step_of old.flash.now.geo entry wp) wp span old mid r
+    not_found r h n =
+        still _ wp span old mid r K
+        (λ k. step_is k ∙ go (fetch_in old.flash.now.geo key (st_of old)).res hr k ∙ sym (on_err r h (st_of mid) k))
+        (λ m q. not_ok r h m wp q)
+      where
+        go : (x : Found) → res ≡ told x → (k : ℕ → St → Out)
+            → migrate_one old.flash.now.geo entry wp (st_of mid) k x ≡ out Corrupted (st_of mid)
+        go corrupt q k = refl
+        go missing q k = refl
+        go (found f) q k = absurd (n _ q)
+
+    pub elsewhere : (s : Spot) → res ≡ Ok (Some s) → (s.at ≡ a → ⊥)
+        → StepOk (step_of old.flash.now.geo entry wp) wp span old mid (Ok wp)
+    elsewhere s h n =
+        still _ wp span old mid (Ok wp) K
+        (λ k. step_is k ∙ go (fetch_in old.flash.now.geo key (st_of old)).res (sym h ∙ hr) k) (λ m q. cc)
+      where
+        go : (x : Found) → Ok (Some s) ≡ told x → (k : ℕ → St → Out)
+            → migrate_one old.flash.now.geo entry wp (st_of mid) k x ≡ k wp (st_of mid)
+        go corrupt q k = cc
+        go missing q k = cc
+        go (found f) q k = let z : s.at ≡ f.at = cc in rw (ne_eqb f.at a (λ (y : f.at ≡ a). n (z ∙ y))) refl
+
+    -- the newest is here: the copy is what is left
+    pub here : (s : Spot) → res ≡ Ok (Some s) → s.at ≡ a → (G : Geo) → G ≡ old.flash.now.geo → (new : Storage)
+        (r : Result ℕ Corrupt) → StepOk (copied G key a L wp) wp (size G.word L) mid new r
+        → StepOk (step_of old.flash.now.geo entry wp) wp span old new r
+    here s h n G g new r C =
+        let C' = rw g at C in
         record {
-          step = λ k. thr_from G (by k _
-              (mv_same G (entry_at img a e L) wp (st_of n img f.mem) k (fetch_in G key (st_of n img mem)).res p l
-              (sym q ∙ spot_is) pa)) (run_is k r.ok refl);
-          around = around r.ok refl;
+          run = λ k. thr_then old.flash.now.geo (ran_still old mid K _ _ (step_is k
+              ∙ go (fetch_in old.flash.now.geo key (st_of old)).res (sym h ∙ hr) k))
+              (rw K.keeps.same.geo at C'.run k);
+          keeps = keeps_trans old mid new K.keeps C.keeps;
+          erased = C.erased ∙ K.erased;
+          others = λ b m d. C'.others b m d ∙ ap (λ x. take m (drop b x)) K.image;
+          next = C'.next;
         }
+      where
+        go : (x : Found) → Ok (Some s) ≡ told x → (k : ℕ → St → Out)
+            → migrate_one old.flash.now.geo entry wp (st_of mid) k x ≡ copied old.flash.now.geo key a L wp (st_of mid) k
+        go corrupt q k = cc
+        go missing q k = cc
+        go (found f) q k =
+            let z : s.at ≡ f.at = cc in
+            rw (eq-eqb f.at a (sym z ∙ n), ← hk) refl
 
 pub near : (a e L wp w : ℕ) → 0 < w → a + size w L ≤ e → ((wp + size w L ≤ a) ⊎ (e ≤ wp))
     → (a + 8 + L ≤ wp) ⊎ (wp + size w L ≤ a)
@@ -207,21 +206,7 @@ near a e L wp w hw h d =
     let z = le_size w L hw in
     ⊎_elim (λ (y : wp + size w L ≤ a). inr y) (λ (y : e ≤ wp). inl (omega arith)) d
 
--- ---- any item
-
-module _ (G : Geo) (n : ℕ) (img : List ℕ) (mem : Mem) (a e L wp : ℕ) where
-  pub item_one : (img' : List ℕ) (p p' : ℕ) (r : Moved) → true ≡ is_present (item_of (part img a e) L).kind
-      → MovedOk G n img p img' p' mem a e L wp r → ItemOk G n img p img' p' mem a e L wp r
-  item_one img' p p' r pr M = record { step = λ k. rw (← pr) (M.step k); around = M.around }
-
-  pub item_not : (p : ℕ) → false ≡ is_present (item_of (part img a e) L).kind
-      → ItemOk G n img p img p mem a e L wp (record { mem = mem; to = wp; ok = true })
-  item_not p pr = record {
-    step = λ k. rw (← pr) (thr_refl G (k wp (st_of n img mem)) img p);
-    around = record { kept = kept_refl n mem; rest = refl; low = omega arith; high = omega arith };
-  }
-
--- ---- the run
+-- ---- the run over an area
 
 all_step : (G : Geo) (x : Entry) (es : List Entry) (wp : ℕ) (s : St)
     → migrate_all G (presents (x ∷ es)) wp s ≡ step_of G x wp s (migrate_all G (presents es))
@@ -234,85 +219,182 @@ all_step G x es wp s = go (is_present x.it.kind)
     go true = refl
     go false = refl
 
-module _ (G : Geo) (n : ℕ) (img : List ℕ) (mem : Mem) (a e wp : ℕ) (hw : 0 < G.word) (he : e ≤ length img) where
-  pub run_none : e ≤ a → run_of G n img mem a e wp ≡ out Done (st_of n img mem)
+module _ (G : Geo) (hw : 0 < G.word) (s : St) (a e wp : ℕ) (he : e ≤ length s.img) where
+  pub run_none : e ≤ a → run_of G a e wp s ≡ out Done s
   unfolding migrate_all
-  run_none h = rw (in_none G.word hw img e he a h)
+  run_none h = rw (in_none G.word hw s.img e he a h) refl
 
-  module _ (r : Read) (h : a < e) (q : read_of (part img a e) r ≡ read G.word (part img a e)) where
-    pub run_end : r ≡ ReadEnd → run_of G n img mem a e wp ≡ out Done (st_of n img mem)
+  module _ (r : Read) (h : a < e) (q : read_of (part s.img a e) r ≡ read G.word (part s.img a e)) where
+    pub run_end : r ≡ ReadEnd → run_of G a e wp s ≡ out Done s
     unfolding migrate_all
-    run_end t = rw (by_end G.word hw img e he a r h q t)
+    run_end t = rw (by_end G.word hw s.img e he a r h q t) refl
 
-    pub run_skip : r ≡ Skip → run_of G n img mem a e wp ≡ run_of G n img mem (a + G.word) e wp
-    run_skip t =
-        ap (λ (x : Scan). migrate_all G (presents x.items) wp (st_of n img mem))
-        (by_skip G.word hw img e he a r h q t)
+    pub run_skip : r ≡ Skip → run_of G a e wp s ≡ run_of G (a + G.word) e wp s
+    run_skip t = ap (λ (x : Scan). migrate_all G (presents x.items) wp s) (by_skip G.word hw s.img e he a r h q t)
 
-    module _ (L : ℕ) (t : r ≡ Item L) (img' : List ℕ) (p p' : ℕ) (m : Moved)
-        (M : ItemOk G n img p img' p' mem a e L wp m) where
-      abbrev later : List Entry
-      later = (scan_in G.word img (a + size G.word L) e).items
+    pub run_item : (L : ℕ) → r ≡ Item L
+        → run_of G a e wp s
+        ≡ step_of G (entry_at s.img a e L) wp s (migrate_all G (presents (scan_in G.word s.img (a + size G.word L) e).items))
+    run_item L t =
+        ap (λ (x : Scan). migrate_all G (presents x.items) wp s) (by_item G.word hw s.img e he a r h q L t)
+        ∙ all_step G (entry_at s.img a e L) (scan_in G.word s.img (a + size G.word L) e).items wp s
 
-      one_step : Through G (run_of G n img mem a e wp) img p img' p'
-          (go_on m (st_of n img' m.mem) (migrate_all G (presents later)))
-      one_step =
-          thr_from G (ap (λ (x : Scan). migrate_all G (presents x.items) wp (st_of n img mem))
-          (by_item G.word hw img e he a r h q L t)
-          ∙ all_step G (entry_at img a e L) later wp (st_of n img mem)) (M.step (migrate_all G (presents later)))
+-- the run from a to e, which began to write at `to`, has come to `at`, and writes at `next`
+pub record Reached (a e to : ℕ) (old : Storage) (at next : ℕ) (new : Storage) : Type 0 where
+  pub low : a ≤ at
+  pub high : at ≤ e
+  pub grown : to ≤ next
+  pub room : next + (e - at) ≤ to + (e - a)
+  pub run : Ran old.flash.now new.flash.now (run_of old.flash.now.geo a e to (st_of old)) (run_of old.flash.now.geo at e next (st_of new))
+  pub keeps : Keeps old new
+  pub erased : new.erased ≡ old.erased
 
-      pub run_bad : m.ok ≡ false
-          → Through G (run_of G n img mem a e wp) img p img' p' (out Corrupted (st_of n img' m.mem))
-      run_bad o =
-          thr_to G one_step (ap (λ (b : Bool). pick b (migrate_all G (presents later) m.to (st_of n img' m.mem))
-          (out Corrupted (st_of n img' m.mem))) o)
+pub reached_refl : (a e to : ℕ) (s : Storage) → a ≤ e → Reached a e to s a to s
+reached_refl a e to s h = record {
+  low = omega arith;
+  high = h;
+  grown = omega arith;
+  room = omega arith;
+  run = thr_refl s.flash.now.geo (run_of s.flash.now.geo a e to (st_of s)) s.flash.now.img.now s.flash.now.power;
+  keeps = keeps_refl s;
+  erased = refl;
+}
 
-      pub run_on : m.ok ≡ true
-          → Through G (run_of G n img mem a e wp) img p img' p'
-          (run_of G n img' m.mem (a + size G.word L) e m.to)
-      run_on o =
-          thr_to G one_step (ap (λ (b : Bool). pick b (migrate_all G (presents later) m.to (st_of n img' m.mem))
-          (out Corrupted (st_of n img' m.mem))) o
-          ∙ sym (ap (λ (s : List ℕ). migrate_all G
-          (presents (scan G.word (e - (a + size G.word L)) (a + size G.word L) s).items) m.to
-          (st_of n img' m.mem)) M.around.rest))
+pub len_same : (old new : Storage) → Keeps old new → length new.flash.now.img.now ≡ length old.flash.now.img.now
+len_same old new K =
+    let h = new.flash.now.held.whole in
+    rw K.same.geo at h ∙ sym old.flash.now.held.whole
 
-pub far : (a at e to wp z : ℕ) → a ≤ at → to ≤ wp → wp + (e - at) ≤ to + (e - a) → at + z ≤ e
-    → ((to + (e - a) ≤ a) ⊎ (e ≤ to)) → (wp + z ≤ at) ⊎ (e ≤ wp)
-far a at e to wp z h₁ h₂ h₃ h₄ d =
-    ⊎_elim (λ (y : to + (e - a) ≤ a). inl (omega arith)) (λ (y : e ≤ to). inr (omega arith)) d
+module _ (a e to : ℕ) (old : Storage) (at next : ℕ) (now : Storage) (I : Reached a e to old at next now) where
+  -- no item is left
+  pub all_done : run_of old.flash.now.geo at e next (st_of now) ≡ out Done (st_of now) → AllOk a e to old now (Ok tt)
+  all_done q = record { run = thr_to old.flash.now.geo I.run q; keeps = I.keeps; erased = I.erased }
+
+  pub reached_skip : run_of old.flash.now.geo at e next (st_of now) ≡ run_of old.flash.now.geo (at + old.flash.now.geo.word) e next (st_of now)
+      → at + old.flash.now.geo.word ≤ e → Reached a e to old (at + old.flash.now.geo.word) next now
+  reached_skip q h = record {
+    low = omega (arith, I.low);
+    high = h;
+    grown = I.grown;
+    room = omega (arith, I.room);
+    run = thr_to old.flash.now.geo I.run q;
+    keeps = I.keeps;
+    erased = I.erased;
+  }
+
+  module _ (L : ℕ) (new : Storage) (m : Result ℕ Corrupt)
+      (M : StepOk (step_of now.flash.now.geo (entry_at now.flash.now.img.now at e L) next) next (size now.flash.now.geo.word L) now new m)
+      (q : run_of old.flash.now.geo at e next (st_of now)
+      ≡ step_of old.flash.now.geo (entry_at now.flash.now.img.now at e L) next (st_of now)
+      (migrate_all old.flash.now.geo
+      (presents (scan_in old.flash.now.geo.word now.flash.now.img.now (at + size old.flash.now.geo.word L) e).items))) where
+    abbrev b : ℕ
+    b = at + size old.flash.now.geo.word L
+
+    abbrev later : ℕ → St → Out
+    later = migrate_all old.flash.now.geo (presents (scan_in old.flash.now.geo.word now.flash.now.img.now b e).items)
+
+    one_step : Ran old.flash.now new.flash.now (run_of old.flash.now.geo a e to (st_of old)) (go_on m (st_of new) later)
+    one_step =
+        let r = M.run later in
+        thr_then old.flash.now.geo I.run (thr_from old.flash.now.geo q (rw I.keeps.same.geo at r))
+
+    pub all_bad : IsErr m → (r : Result (Unit {0}) Corrupt) → IsErr r → AllOk a e to old new r
+    all_bad h r hr = record {
+      run = thr_to old.flash.now.geo one_step (on_err m h (st_of new) later ∙ ap (λ x. out x (st_of new)) (sym (bad r hr)));
+      keeps = keeps_trans old now new I.keeps M.keeps;
+      erased = M.erased ∙ I.erased;
+    }
+      where
+        bad : (r : Result (Unit {0}) Corrupt) → IsErr r → ended r ≡ Corrupted
+        bad (Ok u) h = cc
+        bad (Err x) h = refl
+
+    pub reached_item : (n : ℕ) → m ≡ Ok n → b ≤ e → ((to + (e - a) ≤ a) ⊎ (e ≤ to)) → Reached a e to old b n new
+    reached_item n o h d =
+        let w = M.next in
+        let w' = rw o at w in
+        let w'' = rw I.keeps.same.geo at w' in
+        let rest : part new.flash.now.img.now b e ≡ part now.flash.now.img.now b e =
+        M.others b (e - b) (rw I.keeps.same.geo (⊎_elim (λ (y : to + (e - a) ≤ a). inr (omega (arith, I.low, I.room, I.high)))
+        (λ (y : e ≤ to). inl (omega (arith, I.grown))) d)) in
+        record {
+          low = omega (arith, I.low);
+          high = h;
+          grown = omega (arith, I.grown, w''.0);
+          room = omega (arith, I.room, w''.1);
+          run = thr_to old.flash.now.geo one_step (ap (λ (x : Result ℕ Corrupt). go_on x (st_of new) later) o
+              ∙ sym (ap (λ (x : List ℕ). migrate_all old.flash.now.geo (presents (scan old.flash.now.geo.word (e - b) b x).items) n
+              (st_of new)) rest));
+          keeps = keeps_trans old now new I.keeps M.keeps;
+          erased = M.erased ∙ I.erased;
+        }
 
 -- ---- a migration
-
-module _ (G : Geo) (n : ℕ) (img img₁ : List ℕ) (p p₁ : ℕ) (mem : Mem) (r : Moved) (src tgt a e to len : ℕ)
-    (run : Through G (run_of G n img mem a e to) img p img₁ p₁ (end_of r (st_of n img₁ r.mem)))
-    (ha : a ≡ data_at G src) (he : e ≡ end_at G src) (ht : to ≡ data_at G tgt) (ok : Held G len) where
-  abbrev moves : Out
-  moves = migrate_all G (items_of G img src) (data_at G tgt) (st_of n img mem)
-
-  abbrev wipe : St → Out
-  wipe s = erasing G src s (out Done)
-
-  all_is : Through G moves img p img₁ p₁ (end_of r (st_of n img₁ r.mem))
-  all_is =
-      let room : 2 * G.word ≤ G.page = omega (arith, ok) in
-      thr_from G (rw (scan_is G img src room, ← ha, ← he, ← ht)) run
-
-  pub migrate_bad : r.ok ≡ false
-      → Through G (migrate G src tgt (st_of n img mem)) img p img₁ p₁ (out Corrupted (st_of n img₁ r.mem))
-  unfolding migrate
-  migrate_bad o = thr_on G 0 moves wipe img img₁ p p₁ Corrupted (st_of n img₁ r.mem) (thr_to G all_is (rw o))
-
-  pub migrate-ok : (img₂ : List ℕ) (p₂ : ℕ) → r.ok ≡ true → Blanked G img₁ p₁ img₂ p₂ src
-      → Through G (migrate G src tgt (st_of n img mem)) img p img₂ p₂
-      (out Done (record { img = img₂; cache = pointers n r.mem.cache; erased = r.mem.erased + 1 }))
-  unfolding migrate
-  migrate-ok img₂ p₂ o w =
-      thr_then G (thr_on G 0 moves wipe img img₁ p p₁ Done (st_of n img₁ r.mem) (thr_to G all_is (rw o)))
-      (thr_erase G src (st_of n img₁ r.mem) (out Done) img₂ p₁ p₂ w)
 
 pub pages_apart : (E w src tgt : ℕ) → 2 * w ≤ E → ((src < tgt) ⊎ (tgt < src))
     → (tgt * E + w + (src * E + (E - w) - (src * E + w)) ≤ src * E + w) ⊎ (src * E + (E - w) ≤ tgt * E + w)
 pages_apart E w src tgt h d =
     ⊎_elim (λ (y : src < tgt). inr (omega (arith, page_in E src tgt y)))
     (λ (y : tgt < src). inl (omega (arith, page_in E tgt src y))) d
+
+-- the source's area lies in the image, and apart from the target's
+pub areas : (G : Geo) (len : ℕ) → Held G len → (src tgt : ℕ) → src < G.pages → tgt < G.pages
+    → ((src < tgt) ⊎ (tgt < src))
+    → (data_at G src ≤ end_at G src) × (end_at G src ≤ len) × (data_at G tgt + (end_at G src - data_at G src) ≤ len)
+    × ((data_at G tgt + (end_at G src - data_at G src) ≤ data_at G src) ⊎ (end_at G src ≤ data_at G tgt))
+areas G len h src tgt i j d =
+    let room : 2 * G.word ≤ G.page = omega (arith, h.room) in
+    let s = page_in G.page src G.pages i in
+    let t = page_in G.page tgt G.pages j in
+    (omega arith, omega (arith, h.whole), omega (arith, h.whole), pages_apart G.page G.word src tgt room d)
+
+bad_end : (r : Result (Unit {0}) Corrupt) → IsErr r → ended r ≡ Corrupted
+bad_end (Ok u) h = cc
+bad_end (Err x) h = refl
+
+module _ (src tgt a e to : ℕ) (old mid : Storage) (ha : a ≡ data_at old.flash.now.geo src)
+    (he : e ≡ end_at old.flash.now.geo src) (ht : to ≡ data_at old.flash.now.geo tgt) where
+  abbrev G : Geo
+  G = old.flash.now.geo
+
+  abbrev moves : Out
+  moves = migrate_all G (items_of G old.flash.now.img.now src) (data_at G tgt) (st_of old)
+
+  abbrev wipe : St → Out
+  wipe s = erasing G src s (out Done)
+
+  module _ (r : Result (Unit {0}) Corrupt) (M : AllOk a e to old mid r) where
+    all_is : Ran old.flash.now mid.flash.now moves (out (ended r) (st_of mid))
+    all_is =
+        let room : 2 * G.word ≤ G.page = omega (arith, old.flash.now.held.room) in
+        thr_from G (rw (scan_is G old.flash.now.img.now src room, ← ha, ← he, ← ht) refl) M.run
+
+    moved : Ran old.flash.now mid.flash.now (migrate G src tgt (st_of old))
+        (pick (is_no 0 (ended r)) (wipe (st_of mid)) (out (ended r) (st_of mid)))
+    unfolding migrate
+    moved =
+        thr_on G 0 moves wipe old.flash.now.img.now mid.flash.now.img.now old.flash.now.power mid.flash.now.power (ended r) (st_of mid)
+        all_is
+
+  pub migrate_bad : (x : Corrupt) → AllOk a e to old mid (Err x) → (r : Result (Unit {0}) Corrupt) → IsErr r
+      → RunOk 1 (migrate G src tgt) old mid (ended r)
+  migrate_bad x M r h =
+      rw (bad_end r h) (record { is = moved (Err x) M; keeps = M.keeps; erased = omega (arith, M.erased) })
+
+  pub migrate-ok : (u : Unit {0}) → AllOk a e to old mid (Ok u) → (new : Storage) → ErasesPage mid new src
+      → RunOk 1 (migrate G src tgt) old new Done
+  migrate-ok u M new E =
+      let b = E.page.blanked in
+      let K = M.keeps in
+      record {
+        is = thr_then G (moved (Ok u) M) (thr_to G (thr_erase G src (st_of mid) (out Done) new.flash.now.img.now mid.flash.now.power
+            new.flash.now.power (rw K.same.geo at b)) (ap (out Done) (rw (E.slots, E.cache, E.erased) refl)));
+        keeps = record {
+          lent = E.lent ∙ K.lent;
+          same = same_trans old.flash.now mid.flash.now new.flash.now K.same E.page.same;
+          slots = E.slots ∙ K.slots;
+          past = rw E.cache K.past;
+        };
+        erased = omega (arith, M.erased, E.erased);
+      }

@@ -10,7 +10,7 @@ use Rattle.rules.specs.declared.{Geo.Geo, Answer.Answer, Answer.TheVariants.Done
 use Rattle.rules.specs.Bytes.{FlashStep, programs, erases, program, erase, splice, round_up, zeros_in, zero_bits}
 use Rattle.rules.specs.Items.{read_by, read, size, pad, encode, encode_data, scan}
 use Rattle.rules.specs.Pages.{state, scan_of, ring_up, ring_down, all_pages}
-use Rattle.rules.specs.Cache.{forget, note}
+use Rattle.rules.specs.Cache.{Cache, forget, note}
 use Rattle.rules.specs.Runs.{St, Out, out, on}
 use Rattle.rules.specs.Power.{lasts, spend, taken, cut_image}
 use Rattle.rules.specs.Fetch.{newest, hit, fetch_in}
@@ -19,10 +19,11 @@ use Rattle.rules.specs.Remove.{only, remove_entries, remove_pages, run_remove}
 use Rattle.laws.specs.Programs.{program-nil, program-cons, program-append}
 use Rattle.laws.specs.Power.{Wrote, Blanked, taken_none, cut_first}
 use Rattle.laws.specs.Through.{Through, thr_cut}
-use Rattle.cache.specs.Code.{pointers}
-use Rattle.fetch.specs.declared.{Mem.Mem}
-use Rattle.fetch.specs.Code.{st_of}
 use Rattle.store.specs.Code.{roll_of}
+
+-- what a call begins with: an image, any cache, and any count of erased pages
+abbrev begin : List ℕ → Cache → ℕ → St
+begin img c n = record { img = img; cache = c; erased = n }
 
 -- ---- one unit of power
 
@@ -85,13 +86,13 @@ abbrev three : Geo
 three = record { word = 4; page = 20; pages = 3 }
 
 -- what follows the first write runs without power, so it leaves l₁
-pub start_before_end : (n : ℕ) (mem : Mem) (l₁ l₂ : List ℕ) (p₁ p₂ : ℕ) (a : Answer) (s : St)
+pub start_before_end : (c : Cache) (n : ℕ) (l₁ l₂ : List ℕ) (p₁ p₂ : ℕ) (a : Answer) (s : St)
     → Wrote (replicate 60 255) 1 l₁ p₁ 20 (0 ∷ 0 ∷ 0 ∷ 0 ∷ []) → l₂ ≡ l₁
-    → Through three (roll_of three 0 (st_of n (replicate 60 255) mem)) (replicate 60 255) 1 l₂ p₂ (out a s) → ⊥
+    → Through three (roll_of three 0 (begin (replicate 60 255) c n)) (replicate 60 255) 1 l₂ p₂ (out a s) → ⊥
 unfolding program splice
-start_before_end n mem l₁ l₂ p₁ p₂ a s d e t =
+start_before_end c n l₁ l₂ p₁ p₂ a s d e t =
     let first = wrote_one (replicate 60 255) l₁ p₁ 20 0 0 (0 ∷ 0 ∷ []) d in
-    let must = first_byte three (roll_of three 0 (st_of n (replicate 60 255) mem)) (replicate 60 255) l₂ p₂ a s 16 0 0
+    let must = first_byte three (roll_of three 0 (begin (replicate 60 255) c n)) (replicate 60 255) l₂ p₂ a s 16 0 0
     (0 ∷ 0 ∷ []) _ refl t in
     let byte : ◌≡◌ {A = ℕ} 255 0 = ap (λ (l : List ℕ). get_or l 16 1) (sym first.0 ∙ sym e ∙ must) in
     absurd (omega arith)
@@ -102,14 +103,14 @@ start_before_end n mem l₁ l₂ p₁ p₂ a s d e t =
 abbrev held : List ℕ
 held = replicate 4 0 ++ (encode 4 7 [] ++ (replicate 8 0 ++ (encode 4 7 [] ++ replicate 24 255)))
 
-pub other_start : (n : ℕ) (mem : Mem) (l₁ l₂ : List ℕ) (p₁ p₂ : ℕ) (a : Answer) (s : St)
+pub other_start : (c : Cache) (n : ℕ) (l₁ l₂ : List ℕ) (p₁ p₂ : ℕ) (a : Answer) (s : St)
     → Wrote held 1 l₁ p₁ 28 (0 ∷ 0 ∷ 0 ∷ 0 ∷ []) → l₂ ≡ l₁
-    → Through three (run_remove three (only 7) (st_of n held mem)) held 1 l₂ p₂ (out a s) → ⊥
+    → Through three (run_remove three (only 7) (begin held c n)) held 1 l₂ p₂ (out a s) → ⊥
 unfolding program splice encode encode_data pad round_up zeros_in zero_bits read_by read size scan state scan_of ring_up remove_entries remove_pages forget
-other_start n mem l₁ l₂ p₁ p₂ a s d e t =
+other_start c n l₁ l₂ p₁ p₂ a s d e t =
     let first = wrote_one held l₁ p₁ 28 0 0 (0 ∷ 0 ∷ []) d in
     let must =
-    first_byte three (run_remove three (only 7) (st_of n held mem)) held l₂ p₂ a s 8 0 0 (0 ∷ 0 ∷ []) _ refl t in
+    first_byte three (run_remove three (only 7) (begin held c n)) held l₂ p₂ a s 8 0 0 (0 ∷ 0 ∷ []) _ refl t in
     let byte : ◌≡◌ {A = ℕ} 0 (get_or held 28 1) = ap (λ (l : List ℕ). get_or l 28 1) (sym first.0 ∙ sym e ∙ must) in
     absurd (omega arith)
 
@@ -119,13 +120,13 @@ other_start n mem l₁ l₂ p₁ p₂ a s d e t =
 abbrev source : List ℕ
 source = replicate 4 0 ++ (encode 4 7 [] ++ (replicate 8 0 ++ replicate 36 255))
 
-pub erase_before_copy : (mem : Mem) (l₁ l₂ : List ℕ) (p₁ p₂ : ℕ) (a : Answer) (s : St) → Blanked three source 1 l₁ p₁ 0
+pub erase_before_copy : (n : ℕ) (l₁ l₂ : List ℕ) (p₁ p₂ : ℕ) (a : Answer) (s : St) → Blanked three source 1 l₁ p₁ 0
     → l₂ ≡ l₁
-    → Through three (migrate three 0 1 (st_of 0 source mem)) source 1 l₂ p₂ (out a s) → ⊥
-unfolding program erase splice encode encode_data pad round_up zeros_in zero_bits read_by read size scan state scan_of ring_up ring_down newest hit fetch_in note pointers on migrate_all migrate
-erase_before_copy mem l₁ l₂ p₁ p₂ a s d e t =
+    → Through three (migrate three 0 1 (begin source [] n)) source 1 l₂ p₂ (out a s) → ⊥
+unfolding program erase splice encode encode_data pad round_up zeros_in zero_bits read_by read size scan state scan_of ring_up ring_down newest hit fetch_in note on migrate_all migrate
+erase_before_copy n l₁ l₂ p₁ p₂ a s d e t =
     let first = blanked_one three source l₁ p₁ 0 d in
-    let must = first_byte three (migrate three 0 1 (st_of 0 source mem)) source l₂ p₂ a s 24 4 0
+    let must = first_byte three (migrate three 0 1 (begin source [] n)) source l₂ p₂ a s 24 4 0
     (251 ∷ 255 ∷ 30 ∷ 0 ∷ 0 ∷ 0 ∷ 7 ∷ 0 ∷ 0 ∷ 0 ∷ []) _ refl t in
     let byte : ◌≡◌ {A = ℕ} 255 0 = ap (λ (l : List ℕ). get_or l 0 1) (sym first.0 ∙ sym e ∙ must) in
     absurd (omega arith)
@@ -136,14 +137,14 @@ erase_before_copy mem l₁ l₂ p₁ p₂ a s d e t =
 abbrev broken : List ℕ
 broken = replicate 16 255 ++ (replicate 4 0 ++ (replicate 36 255 ++ replicate 4 0))
 
-pub higher_page_first : (n : ℕ) (mem : Mem) (l₁ l₂ : List ℕ) (p₁ p₂ : ℕ) (s : St) → Blanked three broken 1 l₁ p₁ 2
+pub higher_page_first : (c : Cache) (n : ℕ) (l₁ l₂ : List ℕ) (p₁ p₂ : ℕ) (s : St) → Blanked three broken 1 l₁ p₁ 2
     → l₂ ≡ l₁
-    → Through three (erase_corrupted three (all_pages three) (st_of n broken mem) (out Done)) broken 1 l₂ p₂ (out Done s)
+    → Through three (erase_corrupted three (all_pages three) (begin broken c n) (out Done)) broken 1 l₂ p₂ (out Done s)
     → ⊥
 unfolding erase splice zeros_in zero_bits state erase_corrupted
-higher_page_first n mem l₁ l₂ p₁ p₂ s d e t =
+higher_page_first c n l₁ l₂ p₁ p₂ s d e t =
     let first = blanked_one three broken l₁ p₁ 2 d in
-    let must = first_page_lem three (erase_corrupted three (all_pages three) (st_of n broken mem) (out Done)) broken l₂ p₂ Done
+    let must = first_page_lem three (erase_corrupted three (all_pages three) (begin broken c n) (out Done)) broken l₂ p₂ Done
     s 0 _ refl t in
     let byte : ◌≡◌ {A = ℕ} 0 255 = ap (λ (l : List ℕ). get_or l 16 1) (sym first.0 ∙ sym e ∙ must) in
     absurd (omega arith)

@@ -2,173 +2,139 @@
 #![tactic(auto)]
 
 ghost use Rattle.std.specs.Prelude.{◌≡◌, ◌+◌, ◌^◌, ◌≤◌, ◌<◌, length};
-ghost use Rattle.rules.specs.Held.{Held};
 ghost use Rattle.rules.specs.Items.{item_of};
-ghost use Rattle.rules.specs.Remove.{remove_start, run_remove, erase_all};
+ghost use Rattle.rules.specs.Remove.{forgetting, remove_start, run_remove, erase_all};
 ghost use Rattle.items.specs.Code.{part};
-ghost use Rattle.store.specs.Code.{RunOk};
-ghost use Rattle.remove.specs.Code.{which_of, hits, RemovedOk, EntriesOk, PageOk, PagesOk, ForgotOk};
+ghost use Rattle.fetch.specs.Code.{st_of, KeepsImage, RunOk};
+ghost use Rattle.remove.specs.Code.{which_of, hits, RemovedOk, EntriesOk, PageOk, PagesOk};
 
-use fetch::Mem;
+use fetch::storage::Storage;
 use items::Read;
-use rules::{Answer, Geo, PageState};
-use store::Run;
+use ring::Pages;
+use ring::flash::Flash;
+use rules::{Answer, PageState};
 
-// What is to be removed: every key, or one.
-#[derive(Clone, Copy)]
+// What is to be removed: every key, or one. No Option, whose None would read as nothing.
+#[derive(Clone, Copy, PartialEq, Eq)]
 pub enum Which {
     Every,
     Only(u32),
 }
 
-// Is the item of data length len at the start of s Present, and to be removed? Bits are counted only where the key fits.
-fn matches(s: &[u8], len: usize, t: Which) -> bool
+// Is the item of data length len at the start of s Present, and to be removed?
+fn matches(s: &[u8], len: usize, which: Which) -> bool
     requires { (8 + len ≤ length s.now) × (len < 65536) }
-    ensures { result ≡ hits (which_of t) (item_of s.now len) }
+    ensures { result ≡ hits (which_of which) (item_of s.now len) }
 {
-    let Which::Only(k) = t else {
-        return items::present(s, len);
-    };
-    if len < 4 {
-        return false;
+    match which {
+        Which::Every => items::present(s, len),
+        Which::Only(key) => items::has_key(s, len, key),
     }
-    if items::key(s, len) != k {
-        return false;
-    }
-    items::present(s, len)
 }
+
+// The steps take the flash and what is to be removed side by side: a struct of both would say no more.
 
 // The item at a place becomes Removed, if it is Present and to be removed: its check word is programmed to 0.
-fn remove_item(img: &mut [u8], at: usize, e: usize, len: usize, t: Which, power: &mut usize)
-    requires { (at + 8 + len ≤ e) × (e ≤ length img.old) × (len < 65536) }
-    ensures { RemovedOk (hits (which_of t) (item_of (part img.old at e) len)) img.old power.old img.new power.new at }
+fn remove_item(flash: &mut Flash<'_>, at: usize, end: usize, len: usize, which: Which)
+    requires { (at + 8 + len ≤ end) × (end ≤ length flash.old.img.now) × (len < 65536) }
+    ensures { RemovedOk (hits (which_of which) (item_of (part flash.old.img.now at end) len)) flash.old flash.new at }
 {
-    if matches(&img[at..e], len, t) {
-        let z = [0u8; 4];
-        words::program(img, at + 4, &z[..], power);
+    if matches(&flash.pages().img[at..end], len, which) {
+        flash.program(at + 4, &[0; 4]);
     }
 }
 
-// The items from a place to the area's end, in order.
-fn remove_entries(img: &mut [u8], a: usize, e: usize, w: usize, t: Which, power: &mut usize)
-    requires { (a ≤ e) × (e ≤ length img.old) × (4 ≤ w) × (w ≤ 8) }
-    ensures { EntriesOk w (which_of t) a e img.old power.old img.new power.new }
+// The items from a place to the area's end, in order: each says where the next one stands.
+fn remove_entries(flash: &mut Flash<'_>, from: usize, end: usize, which: Which)
+    requires { (from ≤ end) × (end ≤ length flash.old.img.now) }
+    ensures { EntriesOk (which_of which) from end flash.old flash.new }
 {
-    let mut at = a;
-    while at < e {
-        let r = items::look_at(img, at, e, w);
-        match r {
+    let word = flash.geo.word;
+    let mut at = from;
+    while at < end {
+        match items::look_at(flash.pages().img, at, end, word) {
             Read::End => {
                 return;
             }
             Read::Skip => {
-                at += w;
-                continue;
+                at += word;
             }
             Read::Item(len) => {
-                remove_item(img, at, e, len, t, power);
-                at += words::size(w, len);
+                remove_item(flash, at, end, len, which);
+                at += words::size(word, len);
             }
         }
     }
 }
 
 // The items of page p, unless it is Open.
-fn remove_page(img: &mut [u8], g: Geo, p: usize, t: Which, power: &mut usize)
-    requires { Held g (length img.old) × (p < g.pages) }
-    ensures { PageOk g (which_of t) p img.old power.old img.new power.new }
+fn remove_page(flash: &mut Flash<'_>, p: usize, which: Which)
+    requires { p < flash.old.geo.pages }
+    ensures { PageOk (which_of which) p flash.old flash.new }
 {
-    if ring::page_is(img, g, p, PageState::Open) {
+    let pages = flash.pages();
+    if pages.page_is(p, PageState::Open) {
         return;
     }
-    let a = ring::data_at(g, p, img.len());
-    let e = ring::end_at(g, p, img.len());
-    remove_entries(img, a, e, g.word, t, power);
+    let from = pages.data_at(p);
+    let end = pages.end_at(p);
+    remove_entries(flash, from, end, which);
 }
 
 // All pages, from one upwards around the ring.
-fn remove_pages(img: &mut [u8], g: Geo, from: usize, t: Which, power: &mut usize)
-    requires { Held g (length img.old) × (from < g.pages) }
-    ensures { PagesOk g (which_of t) from img.old power.old img.new power.new }
+fn remove_pages(flash: &mut Flash<'_>, from: usize, which: Which)
+    requires { from < flash.old.geo.pages }
+    ensures { PagesOk (which_of which) from flash.old flash.new }
 {
     let mut p = from;
-    let mut m = g.pages;
-    while 0 < m {
-        remove_page(img, g, p, t, power);
-        p = ring::next(g, p);
-        m -= 1;
+    for _ in 0..flash.geo.pages {
+        remove_page(flash, p, which);
+        p = flash.pages().next(p);
     }
 }
 
 // Where a removal starts: after the PartialOpen page, or else after the last Closed one, or else at page 1.
-fn start(img: &[u8], g: Geo) -> usize
-    requires { Held g (length img.now) }
-    ensures { (result ≡ remove_start g img.now) × (result < g.pages) }
+fn start(pages: &Pages<'_>) -> usize
+    ensures { (result ≡ remove_start pages.now.geo pages.now.img.now) × (result < pages.now.geo.pages) }
 {
-    let p = ring::first(img, g, PageState::PartialOpen);
-    if p < g.pages {
-        return ring::next(g, p);
+    if let Some(p) = pages.first(PageState::PartialOpen) {
+        return pages.next(p);
     }
-    let c = ring::last(img, g, PageState::Closed);
-    if c < g.pages {
-        return ring::next(g, c);
-    }
-    ring::next(g, 0)
+    let last = pages.last(PageState::Closed).unwrap_or(0);
+    pages.next(last)
 }
 
 // The key's cache entry is erased, or the cache emptied.
-fn forget(mem: Mem, slots: usize, t: Which) -> Mem
-    requires { slots ≤ 32 }
-    ensures { ForgotOk slots (which_of t) mem result }
+fn forget(storage: &mut Storage<'_, '_>, which: Which)
+    ensures state { st_of storage.new ≡ forgetting (which_of which) (st_of storage.old) }
+    ensures kept { KeepsImage storage.old storage.new }
 {
-    let Which::Only(k) = t else {
-        return fetch::empty(mem, slots);
-    };
-    let c = mem.cache;
-    let d = cache::forget(c, slots, k);
-    Mem {
-        cache: d,
-        erased: mem.erased,
+    match which {
+        Which::Every => storage.empty(),
+        Which::Only(key) => storage.cache.forget(storage.slots.count, key),
     }
 }
 
 // A removal: the cache forgets first.
-pub fn run_remove(
-    img: &mut [u8],
-    g: Geo,
-    mem: Mem,
-    slots: usize,
-    t: Which,
-    power: &mut usize,
-) -> Run
-    requires { Held g (length img.old) × (slots ≤ 32) }
-    ensures { RunOk g slots 0 (run_remove g (which_of t)) img.old power.old img.new power.new mem result }
+pub fn run_remove(storage: &mut Storage<'_, '_>, which: Which) -> Answer
+    ensures { RunOk 0 (run_remove storage.old.flash.now.geo (which_of which)) storage.old storage.new result }
 {
-    let m = forget(mem, slots, t);
-    let from = start(img, g);
-    remove_pages(img, g, from, t, power);
-    Run {
-        mem: m,
-        answer: Answer::Done,
-    }
+    forget(storage, which);
+    let from = start(&storage.flash.pages());
+    remove_pages(storage.flash, from, which);
+    Answer::Done
 }
 
 // All pages are erased, and the cache is emptied.
-pub fn erase_all(img: &mut [u8], g: Geo, mem: Mem, slots: usize, power: &mut usize) -> Run
-    requires { Held g (length img.old) × (slots ≤ 32) × (mem.erased < 2 ^ 31) }
-    ensures { RunOk g slots g.pages (erase_all g) img.old power.old img.new power.new mem result }
+pub fn erase_all(storage: &mut Storage<'_, '_>) -> Answer
+    requires { storage.old.erased < 2 ^ 31 }
+    ensures same_flash { storage.new.flash.ghost_name ≡ storage.old.flash.ghost_name }
+    ensures same_image { storage.new.flash.now.img.ghost_name ≡ storage.old.flash.now.img.ghost_name }
+    ensures run { RunOk storage.old.flash.now.geo.pages (erase_all storage.old.flash.now.geo) storage.old storage.new result }
 {
-    let m = fetch::empty(mem, slots);
-    let c = m.cache;
-    let mut erased = m.erased;
-    let mut p: usize = 0;
-    while p < g.pages {
-        ring::erase_page(img, g, p, power);
-        erased += 1;
-        p += 1;
+    storage.empty();
+    for p in 0..storage.flash.geo.pages {
+        storage.erase_page(p);
     }
-    Run {
-        mem: Mem { cache: c, erased },
-        answer: Answer::Done,
-    }
+    Answer::Done
 }

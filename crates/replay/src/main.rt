@@ -1,146 +1,97 @@
-// Replays lists of calls and their answers on the public calls, and says what differs.
+// Replays lists of calls and their answers on the public calls, and says what differs. What can't be written is let go.
 #![tactic(auto)]
 
 mod score;
 mod turn;
 
-ghost use Rattle.std.specs.Prelude.{◌≡◌, length};
-
-use lists::line;
-use lists::line::Line;
+use lists::line::{Call, Line};
 use lists::play::Run;
 use score::Score;
 use std::env::FillError;
 use std::fs::File;
 use std::io::Read;
+use std::mem;
 use std::rt::{Env, Files};
 
-// The run and the score after some lines.
+// A list as far as it is replayed, and the room for its images and values.
 #[derive(Drop)]
-struct Stand {
+struct Replay<'a> {
+    img: &'a mut [u8],
+    space: &'a mut [u8],
+    line: Line,
     run: Run,
     score: Score,
 }
 
-// What is carried from piece to piece of a list: the line as far as it is read, and whether there may be more.
-#[derive(Drop)]
-struct Reading {
-    line: Line,
-    stand: Stand,
-    more: bool,
-}
-
-// A line's end: its turn, unless a line before it couldn't be read, and the score.
-fn end_line(rt: &impl Print, img: &mut [u8], space: &mut [u8], s: Stand, l: Line) -> Stand {
-    let run = s.run;
-    let score = s.score;
-    if score.bad != 0 {
-        return s;
-    }
-    if l.letter == b'#' {
-        return Stand {
-            run,
-            score: score::passed(score),
-        };
-    }
-    if score.ended {
-        return Stand {
-            run,
-            score: score::unreadable(score),
-        };
-    }
-    if l.letter == b'q' {
-        return Stand {
-            run,
-            score: score::ended(score, l),
-        };
-    }
-    let t = turn::take(img, space, run, l);
-    let fate = t.fate;
-    let next = t.run;
-    Stand {
-        run: next,
-        score: score::called(rt, score, l.letter == b'n', fate),
-    }
-}
-
-// A piece of a list.
-fn take_bytes(
-    rt: &impl Print,
-    img: &mut [u8],
-    space: &mut [u8],
-    bytes: &[u8],
-    r: Reading,
-) -> Reading {
-    let mut line = r.line;
-    let mut stand = r.stand;
-    for b in bytes {
-        if *b == b'\n' {
-            stand = end_line(rt, img, space, stand, line);
-            line = line::blank();
-        } else {
-            line = line::read_byte(line, *b);
+impl<'a> Replay<'a> {
+    fn new(img: &'a mut [u8], space: &'a mut [u8]) -> Replay<'a> {
+        Replay {
+            img,
+            space,
+            line: Line::Blank,
+            run: turn::start(0, 0, 0), // until a run begins every call is refused
+            score: Score::default(),
         }
     }
-    Reading {
-        line,
-        stand,
-        more: true,
-    }
-}
 
-// Reads once, and takes what came. A read that fails ends the list.
-fn take_some<P: Print, F: Read>(
-    rt: &P,
-    file: &mut F,
-    img: &mut [u8],
-    space: &mut [u8],
-    r: Reading,
-) -> Reading {
-    let mut piece = [0u8; 65536];
-    let n = file.read(&mut piece).unwrap_or(0);
-    if n == 0 {
-        let line = r.line;
-        let stand = r.stand;
-        return Reading {
-            line,
-            stand,
-            more: false,
-        };
-    }
-    take_bytes(rt, img, space, &piece[..n], r)
-}
-
-// A whole list. A proved loop has to end, and nothing says that a file does; so its turns are counted.
-fn take_all<P: Print, F: Read>(rt: &P, file: &mut F, img: &mut [u8], space: &mut [u8]) -> Score {
-    let line = line::blank();
-    let stand = Stand {
-        run: turn::no_run(),
-        score: score::none(),
-    };
-    let mut r = Reading {
-        line,
-        stand,
-        more: true,
-    };
-    for _ in 0..u64::MAX {
-        if !r.more {
-            break;
+    // A call's turn, or the list's end.
+    fn take(&mut self, rt: &impl Print, call: &Call) {
+        if call.letter == b'q' {
+            self.score.end(call);
+            return;
         }
-        r = take_some(rt, file, img, space, r);
+        match turn::take(self.img, self.space, &mut self.run, call) {
+            Some(equal) => self.score.call(rt, call.letter == b'n', equal),
+            None => self.score.refuse(),
+        }
     }
-    closed(r)
-}
 
-// The score at a file's end: bytes after the last line end are a line that can't be read.
-fn closed(r: Reading) -> Score {
-    let l = r.line;
-    let s = r.stand;
-    let score = s.score;
-    if l.letter == b'\n' {
-        return score;
+    // A line's end: its turn, unless a line before it couldn't be read, and the score.
+    fn end_line(&mut self, rt: &impl Print) {
+        let line = mem::take(&mut self.line);
+        if self.score.is_bad() {
+            return;
+        }
+        match line {
+            Line::Comment => self.score.pass(),
+            Line::Call(call) if !self.score.is_ended() => self.take(rt, &call),
+            _ => self.score.refuse(),
+        }
     }
-    score::unreadable(score)
+
+    // A piece of the list.
+    fn read(&mut self, rt: &impl Print, bytes: &[u8]) {
+        for b in bytes {
+            if *b == b'\n' {
+                self.end_line(rt);
+            } else {
+                let line = mem::take(&mut self.line);
+                self.line = line.read_byte(*b);
+            }
+        }
+    }
+
+    // Reads once, and takes what came: whether there may be more. A read that fails ends the list.
+    fn read_some<P: Print, F: Read>(&mut self, rt: &P, file: &mut F) -> bool {
+        let mut piece = [0u8; 65536];
+        let n = file.read(&mut piece).unwrap_or(0);
+        self.read(rt, &piece[..n]);
+        0 < n
+    }
+
+    // The whole list, and its score. A proved loop has to end, and nothing says that a file does; so its turns are counted.
+    fn read_all<P: Print, F: Read>(mut self, rt: &P, file: &mut F) -> Score {
+        for _ in 0..u64::MAX {
+            if !self.read_some(rt, file) {
+                break;
+            }
+        }
+        // Bytes after the last line end are a line that can't be read.
+        if !matches!(self.line, Line::Blank) {
+            self.score.refuse();
+        }
+        self.score
+    }
 }
 
 // The file at a path, to be read.
@@ -151,17 +102,24 @@ fn open<R: Files>(rt: &R, path: &[u8]) -> Option<R::File> {
 
 // The list at a path.
 fn replay_file<R: Files + Print>(rt: &R, path: &[u8], img: &mut [u8], space: &mut [u8]) {
-    score::write(rt, path);
-    score::write(rt, b"\n");
+    let _ = rt.write_all(path);
+    let _ = rt.write_all(b"\n");
     let Some(mut file) = open(rt, path) else {
-        score::write(rt, b"  it can't be opened\n");
+        let _ = rt.write_all(b"  it can't be opened\n");
         return;
     };
-    score::report(rt, take_all(rt, &mut file, img, space));
+    let score = Replay::new(img, space).read_all(rt, &mut file);
+    let _ = rt.print(score);
 }
 
-// The list that an argument names; false where there is no such argument. One that is too long names no file.
-fn replay<R: Env + Files + Print>(rt: &R, arg: usize, img: &mut [u8], space: &mut [u8]) -> bool {
+// The list that an argument names; false where there is no such argument. One that is too long names no file. An argument
+// need not be text, so it is read as bytes.
+fn replay_arg<R: Env + Files + Print>(
+    rt: &R,
+    arg: usize,
+    img: &mut [u8],
+    space: &mut [u8],
+) -> bool {
     let mut path = [0u8; 4096];
     match rt.arg(arg, &mut path) {
         Ok(n) => replay_file(rt, &path[..n], img, space),
@@ -171,25 +129,16 @@ fn replay<R: Env + Files + Print>(rt: &R, arg: usize, img: &mut [u8], space: &mu
     true
 }
 
-// Room for the largest image of a list.
-fn image() -> [u8; 1048576]
-    ensures { 1048576 ≡ length result }
-{
-    [255; 1048576]
-}
-
-// Room for the longest value of a list.
-fn longest() -> [u8; 70000]
-    ensures { 70000 ≡ length result }
-{
-    [0; 70000]
+// Room for so many bytes.
+fn room<const N: usize>() -> [u8; N] {
+    [0; N]
 }
 
 fn main(rt: HostRuntime) {
-    let mut img = image();
-    let mut space = longest();
+    let mut img = room::<1048576>(); // the largest image of a list
+    let mut space = room::<70000>(); // its longest value
     for k in 1..usize::MAX {
-        if !replay(&rt, k, &mut img, &mut space) {
+        if !replay_arg(&rt, k, &mut img, &mut space) {
             break;
         }
     }

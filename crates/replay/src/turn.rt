@@ -1,46 +1,13 @@
-// A line's turn: the call that it names is made with its inputs.
-ghost use Rattle.std.specs.Prelude.{◌≤◌};
-
+// A line's turn: the call that it names is made with its inputs. Each says whether the call is as its line says; none where
+// the line names no call.
 use cache::Cache;
-use lists::line::Line;
-use lists::play::{Played, Run, Says, Seen};
-use lists::{play, value};
+use lists::line::Call;
+use lists::play::{Run, Says, Seen};
+use lists::value::Rule;
 use rules::Cursor;
 
-// What became of a line.
-#[derive(Drop)]
-pub enum Fate {
-    Equal,
-    Differs,
-    Unreadable,
-}
-
-// The run after a line.
-#[derive(Drop)]
-pub struct Turned {
-    pub run: Run,
-    pub fate: Fate,
-}
-
-fn wide(x: u32) -> usize {
-    x as usize
-}
-
-fn wide64(x: u32) -> u64 {
-    x as u64
-}
-
-fn byte(x: u32) -> u8 {
-    (x % 256) as u8
-}
-
-// No run yet: every call is refused.
-pub fn no_run() -> Run {
-    started(0, 0, 0)
-}
-
 // A run at its start: an empty cache.
-fn started(page: usize, len: usize, size: usize) -> Run {
+pub fn start(page: usize, len: usize, size: usize) -> Run {
     let cache = Cache {
         keys: [0; 32],
         places: [0; 32],
@@ -59,195 +26,119 @@ fn started(page: usize, len: usize, size: usize) -> Run {
     }
 }
 
-// What a line says of a call, from its number k on.
-fn says(n: [u32; 8], k: usize) -> Says
-    requires { k ≤ 4 }
-{
-    Says {
-        no: n[k],
-        erased: wide(n[k + 1]),
-        image: wide64(n[k + 2]),
-        cache: wide64(n[k + 3]),
+// A value's rule, from the low bytes of its numbers.
+fn rule(first: u32, step: u32) -> Rule {
+    Rule {
+        first: (first % 256) as u8,
+        step: (step % 256) as u8,
     }
 }
 
-// What a line says that an answer shows, its value from number k on.
-fn seen(key: u32, n: [u32; 8], k: usize) -> Seen
-    requires { k ≤ 5 }
-{
-    Seen {
-        kind: 1,
-        key,
-        len: wide(n[k]),
-        first: byte(n[k + 1]),
-        step: byte(n[k + 2]),
-    }
-}
-
-// Nothing is shown.
-fn nothing() -> Seen {
-    Seen {
-        kind: 0,
-        key: 0,
-        len: 0,
-        first: 0,
-        step: 0,
-    }
-}
-
-// The line names no call.
-fn unreadable(run: Run) -> Turned {
-    Turned {
-        run,
-        fate: Fate::Unreadable,
-    }
-}
-
-fn fate_of(equal: bool) -> Fate {
-    if equal { Fate::Equal } else { Fate::Differs }
-}
-
-// The run after a call.
-fn going_on(run: Run, p: Played) -> Turned {
-    let cache = p.cache;
-    let cursor = p.cursor;
-    let next = Run {
-        page: run.page,
-        len: run.len,
-        size: run.size,
-        cache,
-        cursor,
+// What a line says of a call.
+fn says(numbers: &[u32]) -> Option<Says> {
+    let [no, erased, image, cache] = numbers else {
+        return None;
     };
-    Turned {
-        run: next,
-        fate: fate_of(p.equal),
-    }
+    Some(Says {
+        no: *no,
+        erased: *erased as usize,
+        image: u64::from(*image),
+        cache: u64::from(*cache),
+    })
+}
+
+// The value that a line says an answer shows.
+fn seen(key: u32, numbers: &[u32]) -> Option<Seen> {
+    let [len, first, step] = numbers else {
+        return None;
+    };
+    Some(Seen {
+        key,
+        len: *len as usize,
+        rule: rule(*first, *step),
+    })
 }
 
 // n: a run begins, on an image of FF.
-fn new_run(img: &mut [u8], run: Run, l: Line) -> Turned {
-    let n = l.numbers;
-    let len = wide(n[1]);
-    if l.count != 4 {
-        return unreadable(run);
-    }
-    if img.len() < len {
-        return unreadable(run);
-    }
-    value::fill(&mut img[0..len], 255, 0);
-    let a = map::try_new(wide(n[0]), len, wide(n[2]));
-    Turned {
-        run: started(wide(n[0]), len, wide(n[2])),
-        fate: fate_of(answer::number(a) == n[3]),
-    }
+fn begin(img: &mut [u8], run: &mut Run, numbers: &[u32]) -> Option<bool> {
+    let [page, len, size, no] = numbers else {
+        return None;
+    };
+    let next = start(*page as usize, *len as usize, *size as usize);
+    img.get_mut(..next.len)?.fill(255);
+    *run = next;
+    Some(answer::number(map::try_new(next.page, next.len, next.size)) == *no)
 }
 
 // s: a store.
-fn store(img: &mut [u8], space: &mut [u8], run: Run, l: Line) -> Turned {
-    let n = l.numbers;
-    let len = wide(n[1]);
-    if l.count != 8 {
-        return unreadable(run);
-    }
-    if space.len() < len {
-        return unreadable(run);
-    }
-    value::fill(&mut space[0..len], byte(n[2]), byte(n[3]));
-    going_on(run, play::store(img, run, n[0], &space[0..len], says(n, 4)))
+fn store(img: &mut [u8], space: &mut [u8], run: &mut Run, numbers: &[u32]) -> Option<bool> {
+    let [key, len, first, step, said @ ..] = numbers else {
+        return None;
+    };
+    let says = says(said)?;
+    let value = space.get_mut(..*len as usize)?;
+    rule(*first, *step).fill(value);
+    Some(run.store(img, *key, value, says))
 }
 
 // f: a fetch, of none or of a value.
-fn fetch(img: &mut [u8], run: Run, l: Line) -> Turned {
-    let n = l.numbers;
-    if l.count == 5 {
-        return going_on(run, play::fetch(img, run, n[0], says(n, 1), nothing()));
+fn fetch(img: &mut [u8], run: &mut Run, numbers: &[u32]) -> Option<bool> {
+    let (key, rest) = numbers.split_first()?;
+    let (said, value) = rest.split_at_checked(4)?;
+    let says = says(said)?;
+    if value.is_empty() {
+        return Some(run.fetch(img, *key, says, None));
     }
-    if l.count == 8 {
-        return going_on(run, play::fetch(img, run, n[0], says(n, 1), seen(0, n, 5)));
-    }
-    unreadable(run)
+    let seen = seen(0, value)?;
+    Some(run.fetch(img, *key, says, Some(seen)))
 }
 
 // r: a removal of one key.
-fn remove(img: &mut [u8], run: Run, l: Line) -> Turned {
-    let n = l.numbers;
-    if l.count != 5 {
-        return unreadable(run);
-    }
-    going_on(run, play::remove(img, run, n[0], says(n, 1)))
-}
-
-// a: a removal of all.
-fn remove_all(img: &mut [u8], run: Run, l: Line) -> Turned {
-    let n = l.numbers;
-    if l.count != 4 {
-        return unreadable(run);
-    }
-    going_on(run, play::remove_all(img, run, says(n, 0)))
-}
-
-// e: erase all.
-fn erase_all(img: &mut [u8], run: Run, l: Line) -> Turned {
-    let n = l.numbers;
-    if l.count != 4 {
-        return unreadable(run);
-    }
-    going_on(run, play::erase_all(img, run, says(n, 0)))
-}
-
-// w: a walk's start.
-fn walk(img: &mut [u8], run: Run, l: Line) -> Turned {
-    let n = l.numbers;
-    if l.count != 4 {
-        return unreadable(run);
-    }
-    going_on(run, play::walk(img, run, says(n, 0)))
+fn remove(img: &mut [u8], run: &mut Run, numbers: &[u32]) -> Option<bool> {
+    let (key, said) = numbers.split_first()?;
+    let says = says(said)?;
+    Some(run.remove(img, *key, says))
 }
 
 // i: a walk's step to an item.
-fn item(img: &[u8], run: Run, l: Line) -> Turned {
-    let n = l.numbers;
-    if l.count != 4 {
-        return unreadable(run);
-    }
-    going_on(run, play::step(img, run, seen(n[0], n, 1)))
+fn item(img: &[u8], run: &mut Run, numbers: &[u32]) -> Option<bool> {
+    let (key, value) = numbers.split_first()?;
+    let seen = seen(*key, value)?;
+    Some(run.step(img, Some(seen)))
 }
 
 // z: a walk's step at its end.
-fn end(img: &[u8], run: Run, l: Line) -> Turned {
-    if l.count != 0 {
-        return unreadable(run);
+fn end(img: &[u8], run: &mut Run, numbers: &[u32]) -> Option<bool> {
+    if !numbers.is_empty() {
+        return None;
     }
-    going_on(run, play::step(img, run, nothing()))
+    Some(run.step(img, None))
 }
 
 // A call on the run's image.
-fn call(img: &mut [u8], space: &mut [u8], run: Run, l: Line) -> Turned {
-    let letter = l.letter;
-    match letter {
-        b's' => store(img, space, run, l),
-        b'f' => fetch(img, run, l),
-        b'r' => remove(img, run, l),
-        b'a' => remove_all(img, run, l),
-        b'e' => erase_all(img, run, l),
-        b'w' => walk(img, run, l),
-        b'i' => item(img, run, l),
-        b'z' => end(img, run, l),
-        _ => unreadable(run),
+fn call(img: &mut [u8], space: &mut [u8], run: &mut Run, call: &Call) -> Option<bool> {
+    let numbers = call.numbers.as_slice();
+    match call.letter {
+        b's' => store(img, space, run, numbers),
+        b'f' => fetch(img, run, numbers),
+        b'r' => remove(img, run, numbers),
+        b'a' => Some(run.remove_all(img, says(numbers)?)),
+        b'e' => Some(run.erase_all(img, says(numbers)?)),
+        b'w' => Some(run.walk(img, says(numbers)?)),
+        b'i' => item(img, run, numbers),
+        b'z' => end(img, run, numbers),
+        _ => None,
     }
 }
 
 // A whole line's turn.
-pub fn take(img: &mut [u8], space: &mut [u8], run: Run, l: Line) -> Turned {
+pub fn take(img: &mut [u8], space: &mut [u8], run: &mut Run, line: &Call) -> Option<bool> {
+    if line.due {
+        return None;
+    }
+    if line.letter == b'n' {
+        return begin(img, run, line.numbers.as_slice());
+    }
     let len = run.len;
-    if l.due {
-        return unreadable(run);
-    }
-    if l.letter == b'n' {
-        return new_run(img, run, l);
-    }
-    if img.len() < len {
-        return unreadable(run);
-    }
-    call(&mut img[0..len], space, run, l)
+    call(img.get_mut(..len)?, space, run, line)
 }

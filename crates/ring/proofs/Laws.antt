@@ -1,17 +1,20 @@
 -- Pages and the ring, in the form that the code's loops ask.
-use mathlib.Core.Path.{◌≡◌, refl, ap, sym, ◌∙◌}
+use mathlib.Core.Path.{◌≡◌, refl, ap, ◌∙◌}
 use Prim.Native.Nat.{ℕ, suc, ◌+◌, ◌-◌, ◌*◌, ◌≤◌, ◌<◌}
 use native.Mathlib.Omega.{arith}
 use native.Mathlib.Nat.{zero-add}
-use mathlib.Core.Bool.{false, true, Bool}
+use mathlib.Core.Bool.{false, true, Bool, not}
 use mathlib.Core.List.{List, [], ◌∷◌, reverse, reverse-append}
-use lib.ListN.{take, drop}
+use lib.ListN.{take, drop, replicate}
 use Rattle.rules.specs.declared.{Geo.Geo, PageState.PageState, PageState.TheVariants.Corrupted}
+use Rattle.rules.specs.Bytes.{pick, splice, erase}
+use Rattle.rules.specs.Power.{lasts, spend}
+use Rattle.laws.specs.Power.{Blanked}
 use Rattle.rules.specs.Pages.{same, state_of, marked, state, first_with, up_from, scan_of, area_len, data_at, end_at}
 use Rattle.laws.specs.Lists.{up_from-snoc}
 use Rattle.items.specs.Code.{scan_in, SpotIn}
+use Rattle.std.specs.Prelude.{Option, None, Some}
 use Rattle.items.specs.declared.Spot.{Spot}
-use Rattle.items.specs.declared.Spot.TheVariants.{Corrupt, Missing, At}
 
 -- a page's scan, from its data's place to its end word
 pub scan_is : (G : Geo) (img : List ℕ) (p : ℕ) → 2 * G.word ≤ G.page → scan_of G img p ≡ scan_in G.word img (data_at G p) (end_at G p)
@@ -46,30 +49,28 @@ module _ (G : Geo) (t : PageState) (img : List ℕ) (p : ℕ) (h : 0 < p) where
   last-no e = rw (below, e)
 
 -- a page's state by its two words
-pub state-code : (G : Geo) (img : List ℕ) (p a : ℕ) (m₁ m₂ : Bool) (r : PageState) → a ≡ p * G.page → m₁ ≡ marked G (take (a + G.word - a) (drop a img))
-    → m₂ ≡ marked G (take (a + (G.page - G.word) + G.word - (a + (G.page - G.word))) (drop (a + (G.page - G.word)) img)) → r ≡ state_of m₁ m₂ → r ≡ state G img p
+pub state_by : (G : Geo) (img : List ℕ) (p b e : ℕ) (s t : Bool) → b ≡ p * G.page → e ≡ end_at G p
+    → s ≡ marked G (take G.word (drop b img)) → t ≡ marked G (take G.word (drop e img)) → state_of s t ≡ state G img p
 unfolding state
-state-code G img p a m₁ m₂ r ha h₁ h₂ hr =
-    let q₁ : a + G.word - a ≡ G.word = omega arith in
-    let q₂ : a + (G.page - G.word) + G.word - (a + (G.page - G.word)) ≡ G.word = omega arith in
-    let k₁ = rw q₁ at h₁ in
-    let k₂ = rw q₂ at h₂ in
-    rw (← ha, ← k₁, ← k₂) hr
+state_by G img p b e s t hb he hs ht = rw (hs, ht, hb, he) refl
+
+-- a page is corrupted where its end is marked and its start isn't
+pub corrupted_by : (s : Bool) → not s ≡ same Corrupted (state_of s true)
+corrupted_by true = refl
+corrupted_by false = refl
 
 -- a page whose end is not marked is not corrupted
-pub open_end : (G : Geo) (img : List ℕ) (p a : ℕ) (m : Bool) → a ≡ p * G.page
-    → m ≡ marked G (take (a + (G.page - G.word) + G.word - (a + (G.page - G.word))) (drop (a + (G.page - G.word)) img)) → m ≡ false
-    → false ≡ same Corrupted (state G img p)
-open_end G img p a m ha h e =
-    let s = marked G (take (a + G.word - a) (drop a img)) in
-    go s ∙ ap (same Corrupted) (ap (state_of s) (sym e) ∙ state-code G img p a s m (state_of s m) ha refl h refl)
-  where
-    go : (b : Bool) → false ≡ same Corrupted (state_of b false)
-    go true = refl
-    go false = refl
+pub open_end : (s : Bool) → false ≡ same Corrupted (state_of s false)
+open_end true = refl
+open_end false = refl
 
 -- what is found before e is found before n
-pub spot_mono : (e n : ℕ) (r : Spot) → e ≤ n → SpotIn e r → SpotIn n r
-spot_mono e n Corrupt h i = tt
-spot_mono e n Missing h i = tt
-spot_mono e n (At p L) h i = omega arith
+pub spot_mono : (e n : ℕ) (r : Option Spot) → e ≤ n → SpotIn e r → SpotIn n r
+spot_mono e n None h i = tt
+spot_mono e n (Some s) h i = omega arith
+
+-- a page erased from its start on
+pub blanked_by : (G : Geo) (img img' : List ℕ) (p p' q b : ℕ) → b ≡ q * G.page
+    → img' ≡ pick (lasts p 1) (splice img b (replicate G.page 255)) img → p' ≡ spend p 1 → Blanked G img p img' p' q
+unfolding erase
+blanked_by G img img' p p' q b hb h hp = record { is = rw hb at h; left = hp }

@@ -1,254 +1,185 @@
-// The ring: where pages stand, their states, what a page holds, marking and erasing.
+// The ring: where pages stand, their states and what a page holds; in flash.rt what is programmed and erased.
 #![tactic(auto)]
 
-ghost use Rattle.std.specs.Prelude.{◌≡◌, ◌+◌, ◌-◌, ◌*◌, ◌≤◌, ◌<◌, length, replicate};
+ghost use Rattle.std.specs.Prelude.{◌≡◌, ◌+◌, ◌-◌, ◌*◌, ◌≤◌, ◌<◌, Ok, MatchOption, length, take, drop};
 ghost use Rattle.rules.specs.declared.{PageState.TheVariants.Corrupted};
 ghost use Rattle.rules.specs.Held.{Held};
-ghost use Rattle.rules.specs.Pages.{state_of, state_no, same, data_at, end_at, start_at, zero_word, marked, state, scan_of, items_of, has_free_spot, next, prev, first_page, last_page, any_corrupted};
+ghost use Rattle.rules.specs.Pages.{state_of, same, data_at, end_at, marked, state, scan_of, items_of, has_free_spot, next, prev, first_page, last_page, any_corrupted};
 ghost use Rattle.rules.specs.Fetch.{last_with};
-ghost use Rattle.laws.specs.Power.{Wrote, Blanked};
 ghost use Rattle.items.specs.Code.{told, SpotIn};
+
+pub mod flash;
 
 use items::Spot;
 use rules::{Geo, PageState};
 
-// Where page p starts.
-pub fn base(g: Geo, p: usize, len: usize) -> usize
-    requires { Held g len × (p < g.pages) }
-    ensures { (result ≡ p * g.page) × (result + g.page ≤ len) }
-{
-    p * g.page
-}
-
-// Where its data area starts.
-pub fn data_at(g: Geo, p: usize, len: usize) -> usize
-    requires { Held g len × (p < g.pages) }
-    ensures { (result ≡ data_at g p) × (result + (g.page - g.word) ≤ len) }
-{
-    base(g, p, len) + g.word
-}
-
-// Where its end word starts, and its data area ends.
-pub fn end_at(g: Geo, p: usize, len: usize) -> usize
-    requires { Held g len × (p < g.pages) }
-    ensures { (result ≡ end_at g p) × (result + g.word ≤ len) }
-{
-    base(g, p, len) + (g.page - g.word)
-}
-
-// Is a word marked? Half of its bits are zero then.
-fn marked(s: &[u8], g: Geo) -> bool
-    requires { (length s.now ≤ 65536) × (g.word ≤ 8) }
-    ensures { result ≡ marked g s.now }
-{
-    let half = (4 * g.word) as u32;
-    half <= words::zeros(s)
+// A lent image, read page by page.
+#[derive(Clone, Copy)]
+pub struct Pages<'a> {
+    pub img: &'a [u8],
+    pub geo: Geo,
+    pub ghost held: { Held geo (length img.now) },
 }
 
 // The state that the two marks say.
 fn state_of(start: bool, end: bool) -> PageState
     ensures { result ≡ state_of start end }
 {
-    if start {
-        if end {
-            return PageState::Closed;
+    match (start, end) {
+        (false, false) => PageState::Open,
+        (true, false) => PageState::PartialOpen,
+        (true, true) => PageState::Closed,
+        (false, true) => PageState::Corrupted,
+    }
+}
+
+impl Pages<'_> {
+    // Where page p starts.
+    pub fn base(&self, p: usize) -> usize
+        requires { p < self.now.geo.pages }
+        ensures { (result ≡ p * self.now.geo.page) × (result + self.now.geo.page ≤ length self.now.img.now) }
+    {
+        p * self.geo.page
+    }
+
+    // Where its data area starts.
+    pub fn data_at(&self, p: usize) -> usize
+        requires { p < self.now.geo.pages }
+        ensures { (result ≡ data_at self.now.geo p) × (result + (self.now.geo.page - self.now.geo.word) ≤ length self.now.img.now) }
+    {
+        self.base(p) + self.geo.word
+    }
+
+    // Where its end word starts, and its data area ends.
+    pub fn end_at(&self, p: usize) -> usize
+        requires { p < self.now.geo.pages }
+        ensures { (result ≡ end_at self.now.geo p) × (result + self.now.geo.word ≤ length self.now.img.now) }
+    {
+        self.base(p) + (self.geo.page - self.geo.word)
+    }
+
+    // Is the word at a place marked? Half of its bits are zero then.
+    fn marked(&self, at: usize) -> bool
+        requires { at + self.now.geo.word ≤ length self.now.img.now }
+        ensures { result ≡ marked self.now.geo (take self.now.geo.word (drop at self.now.img.now)) }
+    {
+        let half = (4 * self.geo.word) as u32;
+        half <= words::zeros(&self.img[at..at + self.geo.word])
+    }
+
+    // The state of page p.
+    pub fn state(&self, p: usize) -> PageState
+        requires { p < self.now.geo.pages }
+        ensures { result ≡ state self.now.geo self.now.img.now p }
+    {
+        state_of(self.marked(self.base(p)), self.marked(self.end_at(p)))
+    }
+
+    // Is page p in this state?
+    pub fn page_is(&self, p: usize, want: PageState) -> bool
+        requires { p < self.now.geo.pages }
+        ensures { result ≡ same want (state self.now.geo self.now.img.now p) }
+    {
+        self.state(p) == want
+    }
+
+    // The first page in a state.
+    pub fn first(&self, want: PageState) -> Option<usize>
+        ensures { MatchOption result (first_page self.now.geo want self.now.img.now ≡ self.now.geo.pages)
+            (λ p. (p < self.now.geo.pages) × (p ≡ first_page self.now.geo want self.now.img.now)) }
+    {
+        for p in 0..self.geo.pages {
+            if self.page_is(p, want) {
+                return Some(p);
+            }
         }
-        return PageState::PartialOpen;
+        None
     }
-    if end {
-        return PageState::Corrupted;
-    }
-    PageState::Open
-}
 
-// The state of page p.
-pub fn state(img: &[u8], g: Geo, p: usize) -> PageState
-    requires { Held g (length img.now) × (p < g.pages) }
-    ensures { result ≡ state g img.now p }
-{
-    let w = g.word;
-    let a = base(g, p, img.len());
-    let e = a + (g.page - w);
-    let start = marked(&img[a..a + w], g);
-    let end = marked(&img[e..e + w], g);
-    state_of(start, end)
-}
-
-// The states by number.
-fn state_no(s: PageState) -> u32
-    ensures { result ≡ state_no s }
-{
-    match s {
-        PageState::Open => 0,
-        PageState::PartialOpen => 1,
-        PageState::Closed => 2,
-        PageState::Corrupted => 3,
-    }
-}
-
-// Is it this state?
-pub fn is(s: PageState, want: PageState) -> bool
-    ensures { result ≡ same want s }
-{
-    state_no(want) == state_no(s)
-}
-
-// Is page p in this state?
-pub fn page_is(img: &[u8], g: Geo, p: usize, want: PageState) -> bool
-    requires { Held g (length img.now) × (p < g.pages) }
-    ensures { result ≡ same want (state g img.now p) }
-{
-    is(state(img, g, p), want)
-}
-
-// The first page in a state; the number of pages if there is none.
-pub fn first(img: &[u8], g: Geo, want: PageState) -> usize
-    requires { Held g (length img.now) }
-    ensures { (result ≡ first_page g want img.now) × (result ≤ g.pages) }
-{
-    let n = g.pages;
-    let mut p: usize = 0;
-    while p < n {
-        if page_is(img, g, p, want) {
-            return p;
+    // The last page in a state.
+    pub fn last(&self, want: PageState) -> Option<usize>
+        ensures { MatchOption result (last_page self.now.geo want self.now.img.now ≡ self.now.geo.pages)
+            (λ p. (p < self.now.geo.pages) × (p ≡ last_page self.now.geo want self.now.img.now)) }
+    {
+        for p in (0..self.geo.pages).rev() {
+            if self.page_is(p, want) {
+                return Some(p);
+            }
         }
-        p += 1;
+        None
     }
-    n
-}
 
-// The last page in a state; the number of pages if there is none.
-pub fn last(img: &[u8], g: Geo, want: PageState) -> usize
-    requires { Held g (length img.now) }
-    ensures { (result ≡ last_page g want img.now) × (result ≤ g.pages) }
-{
-    let n = g.pages;
-    let mut p = n;
-    while 0 < p {
-        p -= 1;
-        if page_is(img, g, p, want) {
-            return p;
+    // Is page p corrupted? Its start is read only where its end is marked.
+    fn is_corrupted(&self, p: usize) -> bool
+        requires { p < self.now.geo.pages }
+        ensures { result ≡ same Corrupted (state self.now.geo self.now.img.now p) }
+    {
+        self.marked(self.end_at(p)) && !self.marked(self.base(p))
+    }
+
+    // Is a page corrupted?
+    pub fn any_corrupted(&self) -> bool
+        ensures { result ≡ any_corrupted self.now.geo self.now.img.now }
+    {
+        for p in 0..self.geo.pages {
+            if self.is_corrupted(p) {
+                return true;
+            }
         }
+        false
     }
-    n
-}
 
-// Is page p corrupted? Its start is read only where its end is marked.
-fn end_only(img: &[u8], g: Geo, p: usize) -> bool
-    requires { Held g (length img.now) × (p < g.pages) }
-    ensures { result ≡ same Corrupted (state g img.now p) }
-{
-    let w = g.word;
-    let a = base(g, p, img.len());
-    let e = a + (g.page - w);
-    if marked(&img[e..e + w], g) {
-        return is(
-            state_of(marked(&img[a..a + w], g), true),
-            PageState::Corrupted,
-        );
-    }
-    false
-}
-
-// Is a page corrupted?
-pub fn any_corrupted(img: &[u8], g: Geo) -> bool
-    requires { Held g (length img.now) }
-    ensures { result ≡ any_corrupted g img.now }
-{
-    let n = g.pages;
-    let mut p: usize = 0;
-    while p < n {
-        if end_only(img, g, p) {
-            return true;
+    // The next page around the ring.
+    pub fn next(&self, p: usize) -> usize
+        requires { p < self.now.geo.pages }
+        ensures { (result ≡ next self.now.geo p) × (result < self.now.geo.pages) }
+    {
+        if p + 1 == self.geo.pages {
+            return 0;
         }
-        p += 1;
+        p + 1
     }
-    false
-}
 
-// The next page around the ring.
-pub fn next(g: Geo, p: usize) -> usize
-    requires { (p < g.pages) × (g.pages ≤ 256) }
-    ensures { (result ≡ next g p) × (result < g.pages) }
-{
-    if p + 1 == g.pages {
-        return 0;
+    // The previous page around the ring.
+    pub fn prev(&self, p: usize) -> usize
+        requires { p < self.now.geo.pages }
+        ensures { (result ≡ prev self.now.geo p) × (result < self.now.geo.pages) }
+    {
+        if p == 0 {
+            return self.geo.pages - 1;
+        }
+        p - 1
     }
-    p + 1
-}
 
-// The previous page around the ring.
-pub fn prev(g: Geo, p: usize) -> usize
-    requires { p < g.pages }
-    ensures { (result ≡ prev g p) × (result < g.pages) }
-{
-    if p == 0 {
-        return g.pages - 1;
+    // The last Present item with the key in page p.
+    pub fn last_item(&self, p: usize, key: u32) -> Option<Spot>
+        requires { p < self.now.geo.pages }
+        ensures { (Ok result ≡ told (last_with key (items_of self.now.geo self.now.img.now p)))
+            × SpotIn (length self.now.img.now) result }
+    {
+        items::last_in(
+            self.img,
+            self.data_at(p),
+            self.end_at(p),
+            self.geo.word,
+            key,
+        )
     }
-    p - 1
-}
 
-// The last Present item with the key in page p.
-pub fn last_item(img: &[u8], g: Geo, p: usize, key: u32) -> Spot
-    requires { Held g (length img.now) × (p < g.pages) }
-    ensures { (result ≡ told (last_with key (items_of g img.now p))) × SpotIn (length img.now) result }
-{
-    let a = data_at(g, p, img.len());
-    let e = end_at(g, p, img.len());
-    items::last_in(img, a, e, g.word, key)
-}
+    // Where the scan of page p ends.
+    pub fn scan_end(&self, p: usize) -> usize
+        requires { p < self.now.geo.pages }
+        ensures { (result ≡ (scan_of self.now.geo self.now.img.now p).end)
+            × (data_at self.now.geo p ≤ result) × (result ≤ end_at self.now.geo p) }
+    {
+        items::end_in(self.img, self.data_at(p), self.end_at(p), self.geo.word)
+    }
 
-// Where the scan of page p ends.
-pub fn scan_end(img: &[u8], g: Geo, p: usize) -> usize
-    requires { Held g (length img.now) × (p < g.pages) }
-    ensures { (result ≡ (scan_of g img.now p).end) × (data_at g p ≤ result) × (result ≤ end_at g p) }
-{
-    let a = data_at(g, p, img.len());
-    let e = end_at(g, p, img.len());
-    items::end_in(img, a, e, g.word)
-}
-
-// Is at, where the scan of page p ends, a free spot for m bytes?
-pub fn has_free_spot(img: &[u8], g: Geo, p: usize, at: usize, m: usize) -> bool
-    requires { Held g (length img.now) × (p < g.pages) × (at ≡ (scan_of g img.now p).end) × (at ≤ end_at g p) }
-    ensures { result ≡ has_free_spot g img.now p m }
-{
-    let e = end_at(g, p, img.len());
-    items::free(img, at, e, m)
-}
-
-// Programs zeros over a word.
-fn mark(img: &mut [u8], at: usize, w: usize, power: &mut usize)
-    requires { (at + w ≤ length img.old) × (w ≤ 8) }
-    ensures { Wrote img.old power.old img.new power.new at (replicate w 0) }
-{
-    let z = [0u8; 8];
-    words::program(img, at, &z[..w], power);
-}
-
-// Marks the start of page p.
-pub fn mark_start(img: &mut [u8], g: Geo, p: usize, power: &mut usize)
-    requires { Held g (length img.old) × (p < g.pages) }
-    ensures { Wrote img.old power.old img.new power.new (start_at g p) (zero_word g) }
-{
-    let at = base(g, p, img.len());
-    mark(img, at, g.word, power);
-}
-
-// Marks its end.
-pub fn mark_end(img: &mut [u8], g: Geo, p: usize, power: &mut usize)
-    requires { Held g (length img.old) × (p < g.pages) }
-    ensures { Wrote img.old power.old img.new power.new (end_at g p) (zero_word g) }
-{
-    let at = end_at(g, p, img.len());
-    mark(img, at, g.word, power);
-}
-
-// Erases page p.
-pub fn erase_page(img: &mut [u8], g: Geo, p: usize, power: &mut usize)
-    requires { Held g (length img.old) × (p < g.pages) }
-    ensures { Blanked g img.old power.old img.new power.new p }
-{
-    let at = base(g, p, img.len());
-    words::erase(img, at, g.page, power);
+    // Is at, where the scan of page p ends, a free spot for m bytes?
+    pub fn has_free_spot(&self, p: usize, at: usize, m: usize) -> bool
+        requires { (p < self.now.geo.pages) × (at ≡ (scan_of self.now.geo self.now.img.now p).end) × (at ≤ end_at self.now.geo p) }
+        ensures { result ≡ has_free_spot self.now.geo self.now.img.now p m }
+    {
+        items::free(self.img, at, self.end_at(p), m)
+    }
 }

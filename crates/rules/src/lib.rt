@@ -2,7 +2,7 @@
 #![tactic(auto)]
 
 // A geometry: bytes of a word, bytes of a page, number of pages.
-#[derive(Clone, Copy)]
+#[derive(Clone, Copy, PartialEq, Eq)]
 pub struct Geo {
     pub word: usize,
     pub page: usize,
@@ -10,7 +10,7 @@ pub struct Geo {
 }
 
 // What the two marks of a page say.
-#[derive(Clone, Copy)]
+#[derive(Clone, Copy, PartialEq, Eq)]
 pub enum PageState {
     Open,
     PartialOpen,
@@ -19,7 +19,7 @@ pub enum PageState {
 }
 
 // What an item is.
-#[derive(Clone, Copy)]
+#[derive(Clone, Copy, PartialEq, Eq)]
 pub enum Kind {
     Present,
     Removed,
@@ -27,7 +27,7 @@ pub enum Kind {
 }
 
 // Where a walk stands: its first page, the page it reads, the place it reads next.
-#[derive(Clone, Copy)]
+#[derive(Clone, Copy, PartialEq, Eq)]
 pub struct Cursor {
     pub first: usize,
     pub page: usize,
@@ -35,7 +35,7 @@ pub struct Cursor {
 }
 
 // What a call answers. A value has a place and a length, an item a key before them.
-#[derive(Clone, Copy)]
+#[derive(Clone, Copy, PartialEq, Eq)]
 pub enum Answer {
     Done,
     Value(usize, usize),

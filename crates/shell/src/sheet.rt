@@ -1,165 +1,140 @@
-// Output through a sheet, a lent buffer: what waits on it is written when it is full, and at the end. Its first three bytes are its
-// head: where it goes (1 standard output, 2 standard error, 0 nowhere), and how many bytes wait after the head, the low byte first;
-// so at most 65,535 wait.
-ghost use Rattle.std.specs.Prelude.{◌≤◌, length};
+// Output: what waits to be written, and bytes in hexadecimal.
+ghost use Rattle.std.specs.Prelude.{◌≤◌, vec_len};
 
-use itoa::Buffer;
+use std::alloc::Global;
+use std::fmt;
+use std::fmt::Display;
+use std::io::Write;
 
-fn wide(b: u8) -> usize
-    ensures { result ≤ 255 }
-{
-    b as usize
+// How many bytes wait at most.
+const ROOM: usize = 65533;
+
+/// Output to a writer. What is put on a sheet waits until the sheet is full or flushed. After a write that fails, all
+/// goes nowhere.
+#[derive(Drop)]
+pub struct Sheet<W: Write + Drop> {
+    to: W,
+    waiting: Vec<u8>,
+    lost: bool,
+    ghost fits: { vec_len waiting ≤ 65533 },
 }
 
-// The index after what waits.
-fn end(out: &[u8]) -> usize
-    ensures { result ≤ length out.now }
-{
-    if out.len() < 3 {
-        return out.len();
+impl<W: Write + Drop> Sheet<W> {
+    pub fn new(alloc: Global, to: W) -> Self {
+        Sheet {
+            to,
+            waiting: Vec::new(alloc),
+            lost: false,
+        }
     }
-    let n = 3 + wide(out[1]) + 256 * wide(out[2]);
-    if out.len() < n {
-        return out.len();
-    }
-    n
-}
 
-// The head of a sheet whose waiting bytes end at index n.
-fn set_head(out: &mut [u8], to: u8, n: usize) {
-    if out.len() < 3 {
-        return;
+    /// Did a write fail?
+    pub fn is_lost(&self) -> bool {
+        self.lost
     }
-    if n < 3 {
-        return;
-    }
-    out[0] = to;
-    out[1] = ((n - 3) % 256) as u8;
-    out[2] = ((n - 3) / 256 % 256) as u8;
-}
 
-// Where a sheet goes.
-pub fn goes(out: &[u8]) -> u8 {
-    if out.len() < 3 {
-        return 0;
+    // Writes at once.
+    fn write(&mut self, bytes: &[u8]) {
+        if !self.lost {
+            self.lost = self.to.write_all(bytes).is_err();
+        }
     }
-    out[0]
-}
 
-// An empty sheet.
-pub fn open(out: &mut [u8], to: u8) {
-    set_head(out, to, 3);
-}
+    /// Writes what waits.
+    pub fn flush(&mut self) {
+        if !self.lost && !self.waiting.is_empty() {
+            self.lost = self.to.write_all(self.waiting.as_slice()).is_err();
+        }
+        self.waiting.clear();
+    }
 
-// Writes all of a text where a sheet goes; false where it can't.
-fn write_all(rt: &HostRuntime, to: u8, text: &[u8]) -> bool {
-    match to {
-        1 => rt.stdout().write_all(text).is_ok(),
-        2 => rt.stderr().write_all(text).is_ok(),
-        _ => false,
+    // Bytes after what waits, where they have room: whether they had.
+    fn add(&mut self, bytes: &[u8]) -> bool {
+        bytes.len() <= ROOM - self.waiting.len() && self.waiting.extend_from_slice(bytes).is_ok()
     }
-}
 
-// Writes text where the sheet goes; after a failed write it goes nowhere.
-fn write(rt: &HostRuntime, out: &mut [u8], text: &[u8]) {
-    let to = goes(out);
-    if to == 0 {
-        return;
+    /// Bytes that need not be text; those with no room on an empty sheet are written at once.
+    pub fn put_bytes(&mut self, bytes: &[u8]) {
+        if self.add(bytes) {
+            return;
+        }
+        self.flush();
+        if !self.add(bytes) {
+            self.write(bytes);
+        }
     }
-    if write_all(rt, to, text) {
-        return;
-    }
-    set_head(out, 0, 3);
-}
 
-// Writes what waits.
-pub fn flush(rt: &HostRuntime, out: &mut [u8]) {
-    let e = end(out);
-    let to = goes(out);
-    if e < 4 {
-        return;
+    pub fn put(&mut self, text: impl Display + Drop) {
+        // no write to a sheet fails
+        let _ = fmt::Write::write(self, text);
     }
-    if to == 0 {
-        return;
-    }
-    if write_all(rt, to, &out[3..e]) {
-        set_head(out, to, 3);
-        return;
-    }
-    set_head(out, 0, 3);
-}
 
-// Text after what waits; false where there is no room.
-fn add(out: &mut [u8], text: &[u8]) -> bool {
-    let e = end(out);
-    if out.len() - e < text.len() {
-        return false;
-    }
-    if 65538 < e + text.len() {
-        return false;
-    }
-    let n = e + text.len();
-    out[e..n].copy_from_slice(text);
-    let to = goes(out);
-    set_head(out, to, n);
-    true
-}
-
-// Text after what waits; one that is longer than the sheet is written at once.
-pub fn put(rt: &HostRuntime, out: &mut [u8], text: &[u8]) {
-    if add(out, text) {
-        return;
-    }
-    flush(rt, out);
-    if add(out, text) {
-        return;
-    }
-    write(rt, out, text);
-}
-
-// The end of a line.
-pub fn put_end(rt: &HostRuntime, out: &mut [u8]) {
-    put(rt, out, b"\n");
-}
-
-// A number in decimal.
-pub fn put_number(rt: &HostRuntime, out: &mut [u8], n: usize) {
-    let mut digits = Buffer::new();
-    put(rt, out, digits.format(n).as_bytes());
-}
-
-// So many spaces.
-fn put_spaces(rt: &HostRuntime, out: &mut [u8], n: usize) {
-    let mut left = n;
-    while 0 < left {
-        put(rt, out, b" ");
-        left -= 1;
+    pub fn put_line(&mut self, text: impl Display + Drop) {
+        let _ = fmt::Write::writeln(self, text);
     }
 }
 
-// What is left of a width.
-fn gap(width: usize, n: usize) -> usize {
-    if n < width { width - n } else { 0 }
-}
-
-// A number in decimal, with spaces before it up to a width.
-pub fn put_wide(rt: &HostRuntime, out: &mut [u8], n: usize, width: usize) {
-    let mut digits = Buffer::new();
-    let text = digits.format(n).as_bytes();
-    put_spaces(rt, out, gap(width, text.len()));
-    put(rt, out, text);
-}
-
-// Bytes in hexadecimal; a line for none.
-pub fn put_hex(rt: &HostRuntime, out: &mut [u8], value: &[u8]) {
-    if value.len() == 0 {
-        put(rt, out, b"-");
-        return;
+impl<W: Write + Drop> fmt::Write for Sheet<W> {
+    fn write_str(&mut self, text: &str) -> fmt::Result {
+        self.put_bytes(text.as_bytes());
+        Ok(())
     }
-    let mut i: usize = 0;
-    while i < value.len() {
-        let two = tool::hex::show(value[i]);
-        put(rt, out, &two);
-        i += 1;
+}
+
+/// Bytes in hexadecimal; a line for none.
+#[derive(Clone, Copy)]
+pub struct Hex<'a>(pub &'a [u8]);
+
+impl fmt::Display for Hex<'_> {
+    fn fmt<W: fmt::Write>(&self, f: &mut fmt::Formatter<W>) -> fmt::Result {
+        if self.0.is_empty() {
+            return f.write_str("-");
+        }
+        for byte in self.0 {
+            let [high, low] = tool::hex::show(*byte);
+            f.write_char(char::from(high))?;
+            f.write_char(char::from(low))?;
+        }
+        Ok(())
+    }
+}
+
+#[cfg(test)]
+mod tests {
+    use super::*;
+
+    #[test]
+    fn nothing_is_written_after_a_failed_write(rt: HostRuntime) {
+        let mut written = [b'.'; 4];
+        let mut sheet = Sheet::new(rt.alloc(), written.as_mut_slice());
+        sheet.put("ab");
+        sheet.flush();
+        sheet.put("cde");
+        assert!(rt; !sheet.is_lost());
+        sheet.flush();
+        assert!(rt; sheet.is_lost());
+        sheet.put("f");
+        sheet.flush();
+        drop(sheet);
+        assert_eq!(rt; written.as_slice(), b"abcd".as_slice());
+    }
+
+    #[test]
+    fn a_long_text_is_written_at_once(rt: HostRuntime) {
+        let mut written = [b'.'; ROOM + 2];
+        let mut sheet = Sheet::new(rt.alloc(), written.as_mut_slice());
+        sheet.put("a");
+        sheet.put_bytes(&[b'b'; ROOM + 1]);
+        drop(sheet);
+        assert!(rt; written[0] == b'a' && written[1..].iter().all(|b| *b == b'b'));
+    }
+
+    #[test]
+    fn bytes_are_pairs_of_digits(rt: HostRuntime) {
+        assert!(rt;
+            format!(in rt.alloc(); "{}", Hex(b"\x00\x1f\xff")).is_ok_and(|text| text.as_str()
+                == "001fff")
+        );
+        assert!(rt; format!(in rt.alloc(); "{}", Hex(b"")).is_ok_and(|text| text.as_str() == "-"));
     }
 }

@@ -1,13 +1,22 @@
 // What can go wrong, and the sentence for it: what is the matter, and what to do.
-use crate::{sheet, text};
-use tool::word;
+ghost use Rattle.std.specs.Prelude.{◌≡◌, MatchOption};
+ghost use Rattle.std.specs.IoError.{raw_os_error};
+ghost use Rattle.shell.specs.declared.trouble.Reason.TheVariants.{Other};
+ghost use Rattle.shell.specs.declared.trouble.Trouble.TheVariants.{Memory};
+ghost use Rattle.shell.specs.Troubles.{reason_of, value_trouble};
 
-// The system's numbers of why it refused.
+use crate::sheet::Sheet;
+use std::alloc::{AllocError, AllocFailed};
+use std::io;
+use std::io::Write;
+use thiserror::Error;
+use tool::hex::HexError;
+
+// The system's numbers of why it refused. std's kinds of error are wider: PermissionDenied is EPERM too, and
+// InvalidFilename a path that is not UTF-8.
 const ENOENT: i32 = 2;
 
 const EACCES: i32 = 13;
-
-pub(crate) const EEXIST: i32 = 17;
 
 const ENOTDIR: i32 = 20;
 
@@ -17,161 +26,204 @@ const ENOSPC: i32 = 28;
 
 const EROFS: i32 = 30;
 
-pub(crate) const ENAMETOOLONG: i32 = 36;
+const ENAMETOOLONG: i32 = 36;
 
-// A word of a command.
-#[derive(Clone, Copy)]
+/// A word of a command that says nothing.
+#[derive(Clone, Copy, Debug, Error)]
 pub enum Part {
+    #[error("is no page size; give PAGE in bytes, decimal or hexadecimal, as 4096 or 0x1000")]
     Page,
+    #[error("is no verb; use check, list, walk, draw, fetch, store, remove, erase or blank")]
     Verb,
+    #[error("is no key; give KEY from 0 to 4294967295, decimal or hexadecimal, as 31 or 0x1f")]
     Key,
+    #[error("is no value; give HEX as two hexadecimal digits a byte, or - for the empty value")]
     Hex,
+    #[error("is no number of pages; give PAGES from 2 to 256")]
     Pages,
 }
 
-// What the system was asked.
-#[derive(Clone, Copy)]
+impl Part {
+    // Which word of a command it is, from 0.
+    fn index(self) -> usize {
+        match self {
+            Part::Page => 1,
+            Part::Verb => 2,
+            Part::Key | Part::Pages => 3,
+            Part::Hex => 4,
+        }
+    }
+}
+
+/// What the system was asked, and refused.
+#[derive(Clone, Copy, Debug, Error)]
 pub enum Deed {
+    #[error("it can't be opened; give the path of a file, or make a new image: flashmap IMAGE PAGE blank PAGES")]
     Open,
+    #[error("it can't be read; give the path of a file that can be read")]
     Read,
+    #[error("no file can be made there; nothing was changed; put the image where you may write")]
     Make,
+    #[error("the image can't be written; nothing was changed; make room and try again")]
     Write,
+    #[error("the changed image can't take its name; nothing was changed; put the image where you may write")]
     Rename,
 }
 
-#[derive(Clone, Copy)]
+/// Why the system refused.
+#[derive(Clone, Copy, Debug, Error)]
+pub enum Reason {
+    #[error("no such file or folder")]
+    NoFile,
+    #[error("no permission")]
+    NoPermission,
+    #[error("it is a folder")]
+    Folder,
+    #[error("a part of the path is no folder")]
+    NoFolder,
+    #[error("the disk is full")]
+    DiskFull,
+    #[error("the disk is read-only")]
+    ReadOnly,
+    #[error("the path is too long")]
+    PathLong,
+    #[error("error")]
+    Other,
+}
+
+impl Reason {
+    // The reason that the system's number stands for.
+    fn of(number: i32) -> Reason
+        ensures { result ≡ reason_of number }
+    {
+        match number {
+            ENOENT => Reason::NoFile,
+            EACCES => Reason::NoPermission,
+            ENOTDIR => Reason::NoFolder,
+            EISDIR => Reason::Folder,
+            ENOSPC => Reason::DiskFull,
+            EROFS => Reason::ReadOnly,
+            ENAMETOOLONG => Reason::PathLong,
+            _ => Reason::Other,
+        }
+    }
+}
+
+impl From<io::Error> for Reason {
+    ghost from_gives = { λ e reason. MatchOption (raw_os_error e) (reason ≡ Other) (λ number. reason ≡ reason_of number) };
+
+    fn from(e: io::Error) -> Reason {
+        match e.raw_os_error() {
+            Some(number) => Reason::of(number),
+            None => Reason::Other,
+        }
+    }
+}
+
+/// Why the map refused, with its number in the table of answers.
+#[derive(Clone, Copy, Debug, Error)]
+pub enum Refusal {
+    #[error("its length is no multiple of PAGE; give the page size that it was made with \
+        (1, EndRangeNotAtPageBoundary)")]
+    EndRangeNotAtPageBoundary,
+    #[error("it has fewer than two pages; give a smaller PAGE or more pages (2, RangeTooSmall)")]
+    RangeTooSmall,
+    #[error("PAGE is too small; give 20 or more (3, PagesTooSmall)")]
+    PagesTooSmall,
+    #[error("PAGE is no multiple of 4, or over 32768, or there are over 256 pages; give another PAGE (4, Geometry)")]
+    Geometry,
+    #[error("the cache is too large; give it at most 32 entries (5, CacheSize)")]
+    CacheSize,
+    #[error("the value is too long; give at most PAGE - 20 bytes (6, ItemTooBig)")]
+    ItemTooBig,
+    #[error("the map is full; nothing was changed; remove keys or use a larger image (7, FullStorage)")]
+    FullStorage,
+    #[error("it is damaged past repair; nothing was changed; see check for the place, and erase to start anew \
+        (8, Corrupted)")]
+    Corrupted,
+}
+
+/// What went wrong with a command.
+#[derive(Clone, Copy, Debug, Error)]
 pub enum Trouble {
-    Nothing,
-    Words, // too few words, or too many
-    Long, // the words have no room
-    Bad(Part), // a word says nothing
-    System(Deed, i32), // the system refused, with this errno; 0 where it gave none
-    Large, // the file has no room
-    Refused(u32), // the map refused, with this answer's number
-    Damaged, // a look was answered Corrupted
-    Unsound, // the image is not sound
-    Exists, // the path of a new image is taken
-    Halfway, // the path that a changed image is written to is taken
+    // too few words, or too many
+    #[error("these words are no command; \"flashmap help\" shows each command with its words")]
+    Words,
+    // the words have no room
+    #[error("the words are too long; give a path of at most 4095 bytes, and at most 32748 bytes of value")]
+    Long,
+    #[error("there is too little memory; end other programs and try again")]
+    Memory,
+    #[error("{0}")]
+    Bad(Part),
+    #[error("{0} ({1})")]
+    System(Deed, Reason),
+    // the file has no room
+    #[error("it is too large; give an image of at most 2097152 bytes, or a script of at most 65536")]
+    Large,
+    #[error("{0}")]
+    Refused(Refusal),
+    // a look was answered Corrupted
+    #[error("it is damaged; see check for the place; a store or a removal repairs what it can (8, Corrupted)")]
+    Damaged,
+    #[error("it is not sound; keep a copy: a store or a removal repairs what it can, erase starts anew")]
+    Unsound,
+    // the path of a new image is taken
+    #[error("it exists, and blank writes over no file; give another path, or remove the file first")]
+    Exists,
+    // the path that a changed image is written to is taken
+    #[error("a file of its name with .new after it exists, from a run that goes on or was cut off; \
+        if none goes on, remove it")]
+    Halfway,
 }
 
-// Is there none?
-pub fn is_nothing(t: Trouble) -> bool {
-    if let Trouble::Nothing = t {
-        true
-    } else {
-        false
-    }
-}
+impl From<AllocError> for Trouble {
+    ghost from_gives = { λ _ trouble. trouble ≡ Memory };
 
-// The system's reason.
-fn reason(errno: i32) -> usize {
-    if errno == ENOENT {
-        return text::NO_FILE;
-    }
-    if errno == EACCES {
-        return text::NO_PERMISSION;
-    }
-    if errno == EISDIR {
-        return text::FOLDER;
-    }
-    if errno == ENOTDIR {
-        return text::NO_FOLDER;
-    }
-    if errno == ENOSPC {
-        return text::DISK_FULL;
-    }
-    if errno == EROFS {
-        return text::READ_ONLY;
-    }
-    if errno == ENAMETOOLONG {
-        return text::PATH_LONG;
-    }
-    text::OTHER
-}
-
-// The text for a word that says nothing.
-fn part_text(part: Part) -> usize {
-    match part {
-        Part::Page => text::PAGE,
-        Part::Verb => text::VERB,
-        Part::Key => text::KEY,
-        Part::Hex => text::HEX,
-        Part::Pages => text::PAGES,
+    fn from(_e: AllocError) -> Trouble {
+        Trouble::Memory
     }
 }
 
-// Which word of the command it is.
-fn part_word(part: Part) -> usize {
-    match part {
-        Part::Page => 1,
-        Part::Verb => 2,
-        Part::Key => 3,
-        Part::Hex => 4,
-        Part::Pages => 3,
+impl<T: Drop> From<AllocFailed<T>> for Trouble {
+    ghost from_gives = { λ _ trouble. trouble ≡ Memory };
+
+    fn from(_e: AllocFailed<T>) -> Trouble {
+        Trouble::Memory
     }
 }
 
-// The text for what the system was asked.
-fn deed_text(deed: Deed) -> usize {
-    match deed {
-        Deed::Open => text::OPEN,
-        Deed::Read => text::READ,
-        Deed::Make => text::MAKE,
-        Deed::Write => text::WRITE,
-        Deed::Rename => text::RENAME,
+impl From<HexError> for Trouble {
+    ghost from_gives = { λ e trouble. trouble ≡ value_trouble e };
+
+    fn from(e: HexError) -> Trouble {
+        match e {
+            HexError::Bad => Trouble::Bad(Part::Hex),
+            HexError::Long => Trouble::Refused(Refusal::ItemTooBig),
+        }
     }
 }
 
-// The text for a refusal, by the answer's number.
-fn refusal_text(no: u32) -> usize {
-    if 7 < no {
-        return text::REFUSED + 8;
+impl Trouble {
+    /// The line for a trouble with the command of these words, whose first is a path.
+    pub fn tell<W: Write + Drop>(self, words: &[&[u8]], out: &mut Sheet<W>) {
+        match self {
+            Trouble::Words | Trouble::Long | Trouble::Memory => {}
+            Trouble::Bad(part) => {
+                out.put("\"");
+                out.put_bytes(word(words, part.index()));
+                out.put("\" ");
+            }
+            _ => {
+                out.put_bytes(word(words, 0));
+                out.put(": ");
+            }
+        }
+        out.put_line(self);
     }
-    text::REFUSED + no as usize
 }
 
-// A word that says nothing, in quotes, and what to give.
-fn tell_part(rt: &HostRuntime, out: &mut [u8], part: Part, line: &[u8]) {
-    sheet::put(rt, out, b"\"");
-    sheet::put(rt, out, word::word(line, part_word(part)));
-    sheet::put(rt, out, b"\" ");
-    text::say_line(rt, out, part_text(part));
-}
-
-// A path, and what is the matter with it.
-fn tell_path(rt: &HostRuntime, out: &mut [u8], path: &[u8], k: usize) {
-    sheet::put(rt, out, path);
-    sheet::put(rt, out, b": ");
-    text::say(rt, out, k);
-}
-
-// What the system was asked, and why it refused.
-fn tell_deed(rt: &HostRuntime, out: &mut [u8], path: &[u8], deed: Deed, errno: i32) {
-    tell_path(rt, out, path, deed_text(deed));
-    sheet::put(rt, out, b" (");
-    text::say(rt, out, reason(errno));
-    sheet::put(rt, out, b")\n");
-}
-
-// What is the matter with a file.
-fn tell_file(rt: &HostRuntime, out: &mut [u8], path: &[u8], k: usize) {
-    tell_path(rt, out, path, k);
-    sheet::put_end(rt, out);
-}
-
-// The sentence of a trouble with the file at path, for the command of these words.
-pub fn tell(rt: &HostRuntime, out: &mut [u8], t: Trouble, line: &[u8], path: &[u8]) {
-    match t {
-        Trouble::Nothing => {}
-        Trouble::Words => text::say_line(rt, out, text::WORDS),
-        Trouble::Long => text::say_line(rt, out, text::LONG),
-        Trouble::Bad(part) => tell_part(rt, out, part, line),
-        Trouble::System(deed, errno) => tell_deed(rt, out, path, deed, errno),
-        Trouble::Large => tell_file(rt, out, path, text::LARGE),
-        Trouble::Refused(no) => tell_file(rt, out, path, refusal_text(no)),
-        Trouble::Damaged => tell_file(rt, out, path, text::DAMAGED),
-        Trouble::Unsound => tell_file(rt, out, path, text::UNSOUND),
-        Trouble::Exists => tell_file(rt, out, path, text::EXISTS),
-        Trouble::Halfway => tell_file(rt, out, path, text::HALFWAY),
-    }
+// A word of a command; nothing where it has fewer.
+fn word<'a>(words: &[&'a [u8]], index: usize) -> &'a [u8] {
+    words.get(index).copied().unwrap_or(b"")
 }

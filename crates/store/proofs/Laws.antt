@@ -7,26 +7,25 @@ use native.Mathlib.Omega.{arith}
 use mathlib.Core.List.{List}
 use lib.Dec.{eqb, leb}
 use lib.ListN.{length}
-use borrow.Author.Tests.{eqb-true, leb-true, lt-ltb}
-use Rattle.rules.specs.declared.{Geo.Geo, PageState.TheVariants.Open, PageState.TheVariants.PartialOpen}
-use Rattle.rules.specs.declared.{Answer.TheVariants.Done, Answer.TheVariants.FullStorage}
-use Rattle.rules.specs.declared.{Answer.TheVariants.Corrupted}
+use borrow.Author.Tests.{eqb-true, leb-true, lt-ltb, le-ltb}
+use Rattle.rules.specs.declared.{Geo.Geo, Answer.Answer}
+use Rattle.rules.specs.declared.{Answer.TheVariants.Done, Answer.TheVariants.Value, Answer.TheVariants.None}
+use Rattle.rules.specs.declared.{Answer.TheVariants.Item, Answer.TheVariants.EndRangeNotAtPageBoundary}
+use Rattle.rules.specs.declared.{Answer.TheVariants.RangeTooSmall, Answer.TheVariants.PagesTooSmall}
+use Rattle.rules.specs.declared.{Answer.TheVariants.Geometry, Answer.TheVariants.CacheSize, Answer.TheVariants.ItemTooBig}
+use Rattle.rules.specs.declared.{Answer.TheVariants.FullStorage, Answer.TheVariants.Corrupted}
+use Rattle.rules.specs.declared.{PageState.TheVariants.Open, PageState.TheVariants.PartialOpen}
 use Rattle.rules.specs.Bytes.{pick, both}
 use Rattle.rules.specs.Items.{size, encode}
 use Rattle.rules.specs.Pages.{same, state, first_page, next, start_at, end_at, zero_word, scan_of, blank_at, has_free_spot}
-use Rattle.rules.specs.Cache.{note}
 use Rattle.rules.specs.Answers.{is_no}
-use Rattle.rules.specs.Runs.{St, Out, out, on_done, noting}
+use Rattle.rules.specs.Runs.{St, Out, out, on_done, programming, noting}
 use Rattle.rules.specs.Store.{migrate, rolled, rollover, turn, turns}
-use Rattle.laws.specs.Power.{Wrote}
-use Rattle.laws.specs.Through.{Through, thr_from, thr_to, thr_then, thr_program, thr_on}
-use Rattle.cache.specs.Code.{pointers, Past}
-use Rattle.fetch.specs.declared.{Mem.Mem}
-use Rattle.fetch.specs.Code.{st_of, Kept}
-use Rattle.migrate.specs.declared.{Moved.Moved}
-use Rattle.migrate.specs.Code.{end_of}
-use Rattle.store.specs.declared.{Run.Run}
-use Rattle.store.specs.Code.{RunOk, roll_of, fill_of}
+use Rattle.ring.specs.Flash.{Programmed}
+use Rattle.fetch.specs.declared.storage.Storage.{Storage}
+use Rattle.fetch.specs.Code.{st_of, KeepsImage, Came, RunOk}
+use Rattle.fetch.proofs.Runs.{came_refl, came_then, came_more, came_from, came_to, came_still, came_program, came_on}
+use Rattle.store.specs.Code.{roll_of, fill_of}
 
 pub next-apart : (G : Geo) (q x : ℕ) → q < G.pages → x ≡ next G q → 2 ≤ G.pages → (x < q) ⊎ (q < x)
 next-apart G q x h e h₂ = go (eqb (suc q) G.pages) refl e
@@ -35,69 +34,6 @@ next-apart G q x h e h₂ = go (eqb (suc q) G.pages) refl e
     go true y z = inl (omega (arith, eqb-true (suc q) G.pages y))
     go false y z = inr (omega arith)
 
--- ---- a rollover
-
-module _ (G : Geo) (n : ℕ) (img img₁ : List ℕ) (p p₁ : ℕ) (mem : Mem) (q x : ℕ) (b : Bool)
-    (e₁ : Wrote img p img₁ p₁ (start_at G q) (zero_word G)) (hx : x ≡ next G q)
-    (hb : b ≡ same Open (state G img₁ x)) where
-  roll_mark : Through G (rollover G q (st_of n img mem)) img p img₁ p₁ (rolled G q (st_of n img₁ mem))
-  unfolding rollover
-  roll_mark = thr_program G (start_at G q) (zero_word G) (st_of n img mem) (rolled G q) img₁ p p₁ e₁
-
-  open_is : same Open (state G img₁ (next G q)) ≡ b
-  open_is = sym (hb ∙ ap (λ (y : ℕ). same Open (state G img₁ y)) hx)
-
-  pub roll_open : b ≡ true → Through G (rollover G q (st_of n img mem)) img p img₁ p₁ (out Done (st_of n img₁ mem))
-  unfolding rolled
-  roll_open t = let z = open_is ∙ t in thr_to G roll_mark (rw z)
-
-  pub roll_move : (img₂ : List ℕ) (p₂ : ℕ) (r : Moved) → b ≡ false
-      → Through G (migrate G x q (st_of n img₁ mem)) img₁ p₁ img₂ p₂ (end_of r (st_of n img₂ r.mem))
-      → Through G (rollover G q (st_of n img mem)) img p img₂ p₂ (end_of r (st_of n img₂ r.mem))
-  unfolding rolled
-  roll_move img₂ p₂ r t M =
-      let z = open_is ∙ t in
-      thr_then G (thr_to G roll_mark (rw z)) (thr_from G (ap (λ (y : ℕ). migrate G y q (st_of n img₁ mem)) (sym hx)) M)
-
--- ---- closing a page
-
-module _ (G : Geo) (n : ℕ) (img img₁ img₂ : List ℕ) (p p₁ p₂ : ℕ) (mem : Mem) (q x : ℕ) (r : Moved)
-    (e₁ : Wrote img p img₁ p₁ (end_at G q) (zero_word G)) (hx : x ≡ next G q)
-    (run : Through G (rollover G x (st_of n img₁ mem)) img₁ p₁ img₂ p₂ (end_of r (st_of n img₂ r.mem)))
-    (hp : Past n mem.cache r.mem.cache) (he : r.mem.erased ≤ mem.erased + 1) where
-  abbrev rolls : Out
-  rolls = rollover G (next G q) (st_of n img₁ mem)
-
-  mark_is : Through G (roll_of G q (st_of n img mem)) img p img₁ p₁ (on_done rolls (out FullStorage))
-  mark_is =
-      thr_program G (end_at G q) (zero_word G) (st_of n img mem) (λ s. on_done (rollover G (next G q) s) (out FullStorage))
-      img₁ p p₁ e₁
-
-  roll_is : Through G rolls img₁ p₁ img₂ p₂ (end_of r (st_of n img₂ r.mem))
-  roll_is = thr_from G (ap (λ (y : ℕ). rollover G y (st_of n img₁ mem)) (sym hx)) run
-
-  pub close_ok : r.ok ≡ true
-      → RunOk G n 1 (roll_of G q) img p img₂ p₂ mem (record { mem = r.mem; answer = FullStorage })
-  close_ok o =
-      record {
-        is = thr_then G mark_is
-            (thr_on G 0 rolls (out FullStorage) img₁ img₂ p₁ p₂ Done (st_of n img₂ r.mem) (thr_to G roll_is (rw o)));
-        past = hp;
-        erased = he;
-      }
-
-  pub close_bad : r.ok ≡ false
-      → RunOk G n 1 (roll_of G q) img p img₂ p₂ mem (record { mem = r.mem; answer = Corrupted })
-  close_bad o =
-      record {
-        is = thr_then G mark_is (thr_on G 0 rolls (out FullStorage) img₁ img₂ p₁ p₂ Corrupted (st_of n img₂ r.mem)
-            (thr_to G roll_is (rw o)));
-        past = hp;
-        erased = he;
-      }
-
--- ---- a turn on the PartialOpen page
-
 -- a free spot lies before the end word
 pub spot_room : (G : Geo) (img : List ℕ) (p m : ℕ) → true ≡ has_free_spot G img p m → (scan_of G img p).end + m ≤ end_at G p
 spot_room G img p m h = go (leb ((scan_of G img p).end + m) (end_at G p)) refl (sym h)
@@ -105,57 +41,144 @@ spot_room G img p m h = go (leb ((scan_of G img p).end + m) (end_at G p)) refl (
     go : (b : Bool) → leb ((scan_of G img p).end + m) (end_at G p) ≡ b
         → both b (blank_at img (scan_of G img p).end m) ≡ true → (scan_of G img p).end + m ≤ end_at G p
     go true e q = leb-true ((scan_of G img p).end + m) (end_at G p) e
-    go false e q = let z : ◌≡◌ {A = ℕ} 0 1 = cc in absurd (omega arith)
+    go false e q = cc
 
-module _ (G : Geo) (n : ℕ) (img img' : List ℕ) (p p' : ℕ) (mem : Mem) (q k a span : ℕ) (v : List ℕ) (b : Bool)
-    (ha : a ≡ (scan_of G img q).end) (hs : span ≡ size G.word (4 + length v)) (hb : b ≡ has_free_spot G img q span) where
-  pub fill_write : (m : Mem) → b ≡ true → pointers n m.cache ≡ note k a (pointers n mem.cache) → Kept n mem m
-      → Wrote img p img' p' a (encode G.word k v)
-      → RunOk G n 1 (fill_of G q k v) img p img' p' mem (record { mem = m; answer = Done })
-  fill_write m t hn hk e =
-      record {
-        is = rw (← hs, ← hb, t, ← ha, hn, hk.erased)
-            (thr_program G a (encode G.word k v) (noting k a (st_of n img mem)) (out Done) img' p p' e);
-        past = hk.past;
-        erased = omega (arith, hk.erased);
-      }
+-- only FullStorage has number 7
+pub not-full : (a : Answer) → (a ≡ FullStorage → ⊥) → is_no 7 a ≡ false
+not-full Done n = refl
+not-full (Value p l) n = refl
+not-full None n = refl
+not-full (Item k p l) n = refl
+not-full EndRangeNotAtPageBoundary n = refl
+not-full RangeTooSmall n = refl
+not-full PagesTooSmall n = refl
+not-full Geometry n = refl
+not-full CacheSize n = refl
+not-full ItemTooBig n = refl
+not-full FullStorage n = absurd (n refl)
+not-full Corrupted n = refl
 
-  pub fill_close : (r : Run) → b ≡ false → RunOk G n 1 (roll_of G q) img p img' p' mem r
-      → RunOk G n 1 (fill_of G q k v) img p img' p' mem r
-  fill_close r t R = record { is = rw (← hs, ← hb, t) R.is; past = R.past; erased = R.erased }
+-- ---- a rollover
 
-module _ (G : Geo) (n k : ℕ) (v img img' : List ℕ) (p p' : ℕ) (mem : Mem) (r : Run) where
-  pub turn_fill : (q x : ℕ) (b : Bool) → q ≡ first_page G PartialOpen img → q < G.pages → x ≡ next G q
-      → b ≡ same Open (state G img x) → b ≡ true → RunOk G n 1 (fill_of G q k v) img p img' p' mem r
-      → RunOk G n 1 (turn G k v) img p img' p' mem r
-  unfolding turn
-  turn_fill q x b hp h hx hb t R =
-      let z : same Open (state G img (next G q)) ≡ true =
-      sym (ap (λ (y : ℕ). same Open (state G img y)) hx) ∙ sym hb ∙ t in
-      record { is = rw (← hp, lt-ltb q G.pages h, z) R.is; past = R.past; erased = R.erased }
+module _ (q x : ℕ) (old mid : Storage) (P : Programmed old.flash.now mid.flash.now (start_at old.flash.now.geo q) (zero_word old.flash.now.geo))
+    (lent : mid.flash.ghost_name ≡ old.flash.ghost_name) (slots : mid.slots ≡ old.slots) (cache : mid.cache ≡ old.cache) (erased : mid.erased ≡ old.erased)
+    (hx : x ≡ next mid.flash.now.geo q) where
+  marked : Came 0 old mid (rollover old.flash.now.geo q (st_of old)) (rolled old.flash.now.geo q (st_of mid))
+  unfolding rollover
+  marked =
+      came_program (start_at old.flash.now.geo q) (zero_word old.flash.now.geo) (rolled old.flash.now.geo q) old mid P lent slots cache
+      erased
+
+  pub roll_open : same Open (state mid.flash.now.geo mid.flash.now.img.now x) ≡ true
+      → RunOk 1 (rollover old.flash.now.geo q) old mid Done
+  unfolding rolled
+  roll_open t =
+      let n = rw P.same.geo at hx in
+      let o = rw P.same.geo at t in
+      came_more (omega arith) (came_to marked (rw (← n, o) refl))
+
+  pub roll_move : same Open (state mid.flash.now.geo mid.flash.now.img.now x) ≡ false → (new : Storage) (a : Answer)
+      → RunOk 1 (migrate mid.flash.now.geo x q) mid new a → RunOk 1 (rollover old.flash.now.geo q) old new a
+  unfolding rolled
+  roll_move t new a M =
+      let n = rw P.same.geo at hx in
+      let o = rw P.same.geo at t in
+      came_then marked (came_from (rw (← n, o, P.same.geo) refl) M)
+
+-- ---- closing a page
+
+module _ (p x : ℕ) (old mid new : Storage)
+    (P : Programmed old.flash.now mid.flash.now (end_at old.flash.now.geo p) (zero_word old.flash.now.geo))
+    (lent : mid.flash.ghost_name ≡ old.flash.ghost_name) (slots : mid.slots ≡ old.slots) (cache : mid.cache ≡ old.cache) (erased : mid.erased ≡ old.erased)
+    (hx : x ≡ next mid.flash.now.geo p) where
+  pub close_by : (a : Answer) → RunOk 1 (rollover mid.flash.now.geo x) mid new a
+      → Came 1 old new (roll_of old.flash.now.geo p (st_of old))
+      (pick (is_no 0 a) (out FullStorage (st_of new)) (out a (st_of new)))
+  close_by a R =
+      let n = rw P.same.geo at hx in
+      came_then (came_program (end_at old.flash.now.geo p) (zero_word old.flash.now.geo)
+      (λ s. on_done (rollover old.flash.now.geo (next old.flash.now.geo p) s) (out FullStorage)) old mid P lent slots cache erased)
+      (came_from (rw (← n, ← P.same.geo) refl) (came_on 0 (out FullStorage) a R))
+
+-- ---- a turn on the PartialOpen page
+
+module _ (q k a span : ℕ) (v : List ℕ) (old : Storage) (ha : a ≡ (scan_of old.flash.now.geo old.flash.now.img.now q).end)
+    (hs : span ≡ size old.flash.now.geo.word (4 + length v)) where
+  pub fill_write : true ≡ has_free_spot old.flash.now.geo old.flash.now.img.now q span → (mid new : Storage)
+      → st_of mid ≡ noting k a (st_of old) → KeepsImage old mid
+      → Programmed mid.flash.now new.flash.now a (encode mid.flash.now.geo.word k v)
+      → new.flash.ghost_name ≡ mid.flash.ghost_name → new.slots ≡ mid.slots
+      → new.cache ≡ mid.cache → new.erased ≡ mid.erased → RunOk 1 (fill_of old.flash.now.geo q k v) old new Done
+  fill_write t mid new hn K P lent slots cache erased =
+      came_more (omega arith) (came_from (rw (← hs, ← t, ← ha)
+      (ap (λ s. programming a (encode old.flash.now.geo.word k v) s (out Done)) (sym hn)
+      ∙ ap (λ (g : Geo). programming a (encode g.word k v) (st_of mid) (out Done)) (sym K.keeps.same.geo)))
+      (came_then (came_still old mid _ K)
+      (came_program a (encode mid.flash.now.geo.word k v) (out Done) mid new P lent slots cache erased)))
+
+  pub fill_close : false ≡ has_free_spot old.flash.now.geo old.flash.now.img.now q span → (new : Storage) (r : Answer)
+      → RunOk 1 (roll_of old.flash.now.geo q) old new r → RunOk 1 (fill_of old.flash.now.geo q k v) old new r
+  fill_close t new r R = came_from (rw (← hs, ← t) refl) R
+
+module _ (k : ℕ) (v : List ℕ) (old : Storage) where
+  abbrev G : Geo
+  G = old.flash.now.geo
+
+  abbrev img : List ℕ
+  img = old.flash.now.img.now
+
+  module _ (p : ℕ) (hp : (p < G.pages) × (p ≡ first_page G PartialOpen img)) (x : ℕ) (hx : x ≡ next G p) where
+    -- the page after the PartialOpen one is Open
+    pub turn_on : same Open (state G img x) ≡ true → (new : Storage) (r : Answer) → RunOk 1 (fill_of G p k v) old new r
+        → RunOk 1 (turn G k v) old new r
+    unfolding turn
+    turn_on t new r R = came_from (rw (← hp.1, lt-ltb p G.pages hp.0, ← hx, t) refl) R
+
+    -- it isn't
+    pub turn_stuck : same Open (state G img x) ≡ false → RunOk 1 (turn G k v) old old Corrupted
+    unfolding turn
+    turn_stuck t =
+        came_more (omega arith)
+        (came_from (rw (← hp.1, lt-ltb p G.pages hp.0, ← hx, t) refl) (came_refl old (out Corrupted (st_of old))))
+
+  module _ (np : first_page G PartialOpen img ≡ G.pages) where
+    -- no page is PartialOpen, and none Open
+    pub turn_none : first_page G Open img ≡ G.pages → RunOk 1 (turn G k v) old old Corrupted
+    unfolding turn
+    turn_none e =
+        came_more (omega arith) (came_from (rw (np, e, le-ltb G.pages G.pages (omega arith)) refl)
+        (came_refl old (out Corrupted (st_of old))))
+
+    -- the first Open page is marked
+    pub turn_first : (o : ℕ) → (o < G.pages) × (o ≡ first_page G Open img) → (new : Storage)
+        → Programmed old.flash.now new.flash.now (start_at G o) (zero_word G)
+        → new.flash.ghost_name ≡ old.flash.ghost_name → new.slots ≡ old.slots → new.cache ≡ old.cache
+        → new.erased ≡ old.erased → RunOk 1 (turn G k v) old new FullStorage
+    unfolding turn
+    turn_first o ho new P lent slots cache erased =
+        came_more (omega arith) (came_from (rw (np, le-ltb G.pages G.pages (omega arith), ← ho.1, lt-ltb o G.pages ho.0) refl)
+        (came_program (start_at G o) (zero_word G) (out FullStorage) old new P lent slots cache erased))
 
 -- ---- turns
 
-module _ (G : Geo) (n k : ℕ) (v img img' : List ℕ) (p p' : ℕ) (mem : Mem) (t : ℕ) (r : Run) (h : 0 < t)
-    (R : Through G (turn G k v (st_of n img mem)) img p img' p' (out r.answer (st_of n img' r.mem))) where
-  step : turns G t k v (st_of n img mem) ≡ turns G (suc (t - 1)) k v (st_of n img mem)
-  step = let q : t ≡ suc (t - 1) = omega arith in ap (λ (x : ℕ). turns G x k v (st_of n img mem)) q
-
-  one : Through G (turns G t k v (st_of n img mem)) img p img' p'
-      (pick (is_no 7 r.answer) (turns G (t - 1) k v (st_of n img' r.mem)) (out r.answer (st_of n img' r.mem)))
+module _ (k : ℕ) (v : List ℕ) (n t : ℕ) (h : t < n) (old now new : Storage) (o : Out) (r : Answer)
+    (I : Came t old now o (turns old.flash.now.geo (n - t) k v (st_of now)))
+    (R : RunOk 1 (turn now.flash.now.geo k v) now new r) where
+  -- one more turn
+  pub one_more : Came (t + 1) old new o
+      (pick (is_no 7 r) (turns old.flash.now.geo (n - (t + 1)) k v (st_of new)) (out r (st_of new)))
   unfolding turns
-  one =
-      thr_from G step (thr_on G 7 (turn G k v (st_of n img mem)) (turns G (t - 1) k v) img img' p p' r.answer
-      (st_of n img' r.mem) R)
+  one_more =
+      let q : n - t ≡ suc (n - (t + 1)) = omega arith in
+      came_then I (came_from (rw (q, I.keeps.same.geo) refl) (came_on 7 (turns old.flash.now.geo (n - (t + 1)) k v) r R))
 
-  pub turns-on : is_no 7 r.answer ≡ true
-      → Through G (turns G t k v (st_of n img mem)) img p img' p' (turns G (t - 1) k v (st_of n img' r.mem))
-  turns-on o = thr_to G one (rw o)
-
-  pub turns_done : is_no 7 r.answer ≡ false
-      → Through G (turns G t k v (st_of n img mem)) img p img' p' (out r.answer (st_of n img' r.mem))
-  turns_done o = thr_to G one (rw o)
-
-pub turns-none : (G : Geo) (k t : ℕ) (v : List ℕ) (s : St) → t ≤ 0 → turns G t k v s ≡ out FullStorage s
+pub no_more : (k : ℕ) (v : List ℕ) (G : Geo) (s : St) (t : ℕ) → t ≡ 0 → turns G t k v s ≡ out FullStorage s
 unfolding turns
-turns-none G k t v s h = let q : t ≡ 0 = omega arith in rw q
+no_more k v G s t h = rw h refl
+
+pub all_left : (k : ℕ) (v : List ℕ) (s : Storage)
+    → Came 0 s s (turns s.flash.now.geo s.flash.now.geo.pages k v (st_of s))
+    (turns s.flash.now.geo (s.flash.now.geo.pages - 0) k v (st_of s))
+all_left k v s =
+    let q : s.flash.now.geo.pages - 0 ≡ s.flash.now.geo.pages = omega arith in
+    rw q (came_refl s (turns s.flash.now.geo s.flash.now.geo.pages k v (st_of s)))

@@ -1,23 +1,11 @@
 -- What the store's code says of its runs.
-use Rattle.std.specs.Prelude.{ℕ, ◌+◌, ◌≤◌, List, length}
+use Rattle.std.specs.Prelude.{ℕ, ◌+◌, List, length}
 use Rattle.rules.specs.declared.{Geo.Geo, Answer.TheVariants.Done, Answer.TheVariants.FullStorage}
 use Rattle.rules.specs.Bytes.{pick}
 use Rattle.rules.specs.Items.{size, encode}
 use Rattle.rules.specs.Pages.{scan_of, has_free_spot, next, end_at, zero_word}
 use Rattle.rules.specs.Runs.{St, Out, out, on_done, programming, noting}
 use Rattle.rules.specs.Store.{rollover}
-use Rattle.laws.specs.Through.{Through}
-use Rattle.cache.specs.Code.{Past}
-use Rattle.fetch.specs.declared.{Mem.Mem}
-use Rattle.fetch.specs.Code.{st_of}
-use Rattle.store.specs.declared.{Run.Run}
-
--- the end of a run f that erases at most b pages
-pub record RunOk (G : Geo) (n b : ℕ) (f : St → Out) (img : List ℕ) (p : ℕ) (img' : List ℕ) (p' : ℕ)
-    (mem : Mem) (r : Run) : Type 0 where
-  pub is : Through G (f (st_of n img mem)) img p img' p' (out r.answer (st_of n img' r.mem))
-  pub past : Past n mem.cache r.mem.cache
-  pub erased : r.mem.erased ≤ mem.erased + b
 
 -- a turn's part that closes page p
 abbrev pub roll_of : Geo → ℕ → St → Out

@@ -2,166 +2,88 @@
 #![tactic(auto)]
 
 ghost use Rattle.std.specs.Prelude.{◌+◌, ◌^◌, ◌≤◌, ◌<◌, length};
-ghost use Rattle.rules.specs.Held.{Held};
 ghost use Rattle.rules.specs.Store.{rollover, turn, turns};
-ghost use Rattle.laws.specs.Through.{Through};
-ghost use Rattle.cache.specs.Code.{Past};
-ghost use Rattle.fetch.specs.Code.{st_of};
-ghost use Rattle.migrate.specs.Code.{end_of};
-ghost use Rattle.store.specs.Code.{RunOk, roll_of, fill_of};
+ghost use Rattle.fetch.specs.Code.{RunOk};
+ghost use Rattle.migrate.specs.Code.{ended};
+ghost use Rattle.store.specs.Code.{roll_of, fill_of};
 
-use fetch::Mem;
-use migrate::Moved;
-use rules::{Answer, Geo, PageState};
-
-// How a run ends: the memory it leaves and its answer.
-#[derive(Clone, Copy)]
-pub struct Run {
-    pub mem: Mem,
-    pub answer: Answer,
-}
+use fetch::storage::Storage;
+use items::Corrupt;
+use rules::{Answer, PageState};
 
 // Marks page q, and migrates the page after it if that is not Open.
-pub fn rollover(
-    img: &mut [u8],
-    g: Geo,
-    mem: Mem,
-    slots: usize,
-    q: usize,
-    power: &mut usize,
-) -> Moved
-    requires { Held g (length img.old) × (slots ≤ 32) × (q < g.pages) × (mem.erased < 2 ^ 32) }
-    ensures { Through g (rollover g q (st_of slots img.old mem)) img.old power.old img.new power.new (end_of result (st_of slots img.new result.mem))
-        × Past slots mem.cache result.mem.cache × (result.mem.erased ≤ mem.erased + 1) }
+pub fn rollover(storage: &mut Storage<'_, '_>, q: usize) -> Result<(), Corrupt>
+    requires { (q < storage.old.flash.now.geo.pages) × (storage.old.erased < 2 ^ 33) }
+    ensures { RunOk 1 (rollover storage.old.flash.now.geo q) storage.old storage.new (ended result) }
 {
-    ring::mark_start(img, g, q, power);
-    let x = ring::next(g, q);
-    if ring::page_is(img, g, x, PageState::Open) {
-        return Moved {
-            mem,
-            to: 0,
-            ok: true,
-        };
+    storage.flash.mark_start(q);
+    let pages = storage.flash.pages();
+    let source = pages.next(q);
+    if pages.page_is(source, PageState::Open) {
+        return Ok(());
     }
-    migrate::migrate_items(img, g, mem, slots, x, q, power)
+    migrate::migrate_items(storage, source, q)
 }
 
 // Closes page p, and rolls over to the next one: the store must go on then.
-fn close(img: &mut [u8], g: Geo, mem: Mem, slots: usize, p: usize, power: &mut usize) -> Run
-    requires { Held g (length img.old) × (slots ≤ 32) × (p < g.pages) × (mem.erased < 2 ^ 32) }
-    ensures { RunOk g slots 1 (roll_of g p) img.old power.old img.new power.new mem result }
+fn close(storage: &mut Storage<'_, '_>, p: usize) -> Answer
+    requires { (p < storage.old.flash.now.geo.pages) × (storage.old.erased < 2 ^ 33) }
+    ensures { RunOk 1 (roll_of storage.old.flash.now.geo p) storage.old storage.new result }
 {
-    ring::mark_end(img, g, p, power);
-    let r = rollover(img, g, mem, slots, ring::next(g, p), power);
-    let m = r.mem;
-    if r.ok {
-        return Run {
-            mem: m,
-            answer: Answer::FullStorage,
-        };
-    }
-    Run {
-        mem: m,
-        answer: Answer::Corrupted,
+    storage.flash.mark_end(p);
+    let next = storage.flash.pages().next(p);
+    match rollover(storage, next) {
+        Ok(()) => Answer::FullStorage,
+        Err(Corrupt) => Answer::Corrupted,
     }
 }
 
 // Writes in the free spot of the PartialOpen page p, or closes it and rolls over.
-fn fill(
-    img: &mut [u8],
-    g: Geo,
-    mem: Mem,
-    slots: usize,
-    p: usize,
-    key: u32,
-    v: &[u8],
-    power: &mut usize,
-) -> Run
-    requires { Held g (length img.old) × (slots ≤ 32) × (p < g.pages) × (length v.now ≤ 32768) × (mem.erased < 2 ^ 32) }
-    ensures { RunOk g slots 1 (fill_of g p key v.now) img.old power.old img.new power.new mem result }
+fn fill(storage: &mut Storage<'_, '_>, p: usize, key: u32, value: &[u8]) -> Answer
+    requires { (p < storage.old.flash.now.geo.pages) × (length value.now ≤ 32768) × (storage.old.erased < 2 ^ 33) }
+    ensures { RunOk 1 (fill_of storage.old.flash.now.geo p key value.now) storage.old storage.new result }
 {
-    let at = ring::scan_end(img, g, p);
-    let span = words::size(g.word, 4 + v.len());
-    if ring::has_free_spot(img, g, p, at, span) {
-        let m = fetch::note(mem, slots, key, at as u32);
-        write::write_item(img, at, g.word, key, v, power);
-        return Run {
-            mem: m,
-            answer: Answer::Done,
-        };
+    let pages = storage.flash.pages();
+    let at = pages.scan_end(p);
+    let span = words::size(pages.geo.word, 4 + value.len());
+    if pages.has_free_spot(p, at, span) {
+        storage.note(key, at as u32);
+        storage.flash.write_item(at, key, value);
+        return Answer::Done;
     }
-    close(img, g, mem, slots, p, power)
+    close(storage, p)
 }
 
 // One turn of a store: Done where the item is written, FullStorage where the store must go on.
-pub fn turn(
-    img: &mut [u8],
-    g: Geo,
-    mem: Mem,
-    slots: usize,
-    key: u32,
-    v: &[u8],
-    power: &mut usize,
-) -> Run
-    requires { Held g (length img.old) × (slots ≤ 32) × (length v.now ≤ 32768) × (mem.erased < 2 ^ 32) }
-    ensures { RunOk g slots 1 (turn g key v.now) img.old power.old img.new power.new mem result }
+pub fn turn(storage: &mut Storage<'_, '_>, key: u32, value: &[u8]) -> Answer
+    requires { (length value.now ≤ 32768) × (storage.old.erased < 2 ^ 33) }
+    ensures { RunOk 1 (turn storage.old.flash.now.geo key value.now) storage.old storage.new result }
 {
-    let n = g.pages;
-    let p = ring::first(img, g, PageState::PartialOpen);
-    if p < n {
-        if ring::page_is(img, g, ring::next(g, p), PageState::Open) {
-            return fill(img, g, mem, slots, p, key, v, power);
+    let pages = storage.flash.pages();
+    if let Some(p) = pages.first(PageState::PartialOpen) {
+        if pages.page_is(pages.next(p), PageState::Open) {
+            return fill(storage, p, key, value);
         }
-        return Run {
-            mem,
-            answer: Answer::Corrupted,
-        };
+        return Answer::Corrupted;
     }
-    let o = ring::first(img, g, PageState::Open);
-    if o < n {
-        ring::mark_start(img, g, o, power);
-        return Run {
-            mem,
-            answer: Answer::FullStorage,
-        };
-    }
-    Run {
-        mem,
-        answer: Answer::Corrupted,
-    }
+    let Some(open) = pages.first(PageState::Open) else {
+        return Answer::Corrupted;
+    };
+    storage.flash.mark_start(open);
+    Answer::FullStorage
 }
 
 // At most n turns.
-pub fn turns(
-    img: &mut [u8],
-    g: Geo,
-    mem: Mem,
-    slots: usize,
-    key: u32,
-    v: &[u8],
-    power: &mut usize,
-) -> Run
-    requires { Held g (length img.old) × (slots ≤ 32) × (length v.now ≤ 32768) × (mem.erased < 2 ^ 31) }
-    ensures { RunOk g slots g.pages (turns g g.pages key v.now) img.old power.old img.new power.new mem result }
+pub fn turns(storage: &mut Storage<'_, '_>, key: u32, value: &[u8]) -> Answer
+    requires { (length value.now ≤ 32768) × (storage.old.erased < 2 ^ 32) }
+    ensures { RunOk storage.old.flash.now.geo.pages (turns storage.old.flash.now.geo storage.old.flash.now.geo.pages key value.now)
+        storage.old storage.new result }
 {
-    let mut held = mem;
-    let mut t = g.pages;
-    while 0 < t {
-        let r = turn(img, g, held, slots, key, v, power);
-        let m = r.mem;
-        let a = r.answer;
-        held = m;
-        t -= 1;
-        if answer::is(a, 7) {
-            continue;
+    for _ in 0..storage.flash.geo.pages {
+        match turn(storage, key, value) {
+            Answer::FullStorage => {}
+            answer => return answer,
         }
-        return Run {
-            mem: held,
-            answer: a,
-        };
     }
-    Run {
-        mem: held,
-        answer: Answer::FullStorage,
-    }
+    Answer::FullStorage
 }

@@ -1,28 +1,46 @@
 -- Pairs of digits, one after the other.
-use mathlib.Core.Path.{◌≡◌, sym, ◌∙◌}
-use mathlib.Core.Bool.{true, false}
-use mathlib.Core.List.{List, [], ◌∷◌, ◌++◌, append_assoc, append-nil}
-use Prim.Native.Nat.{ℕ, suc, ◌+◌, ◌*◌, ◌≤◌, ◌<◌}
-use native.Mathlib.Numerals.{add-one}
-use native.Mathlib.Omega.{arith}
-use borrow.Author.Tests.{lt-ltb, le-ltb}
-use lib.ListN.{length, get_or, take, drop, set, drop_of_length-le}
-use lib.Seq.{drop-cons, take-suc-set}
-use Rattle.tool.specs.Numbers.{digit_of}
-use Rattle.tool.specs.Hex.{spelled, all_pairs}
-use Rattle.tool.specs.declared.hex.Bytes.{Bytes}
-use Rattle.tool.specs.declared.hex.Bytes.TheVariants.{Bad, Long, Count}
+use Rattle.std.proofs.Common.{◌≡◌, refl, sym, ◌∙◌, Bool, true, false, cond, List, [], ◌∷◌, ◌++◌, append_assoc, append-nil, ℕ, zero, suc, ◌+◌, ◌*◌, ◌≤◌, ◌<◌, add-one, arith, length, get_or, take, drop, set, drop_of_length-le, drop-cons, take-suc-set, Some, None}
+use Rattle.std.specs.Simd.{first_chunks}
+use Rattle.tool.specs.Hex.{spelled, all_pairs, byte_of}
 
--- what is bad or long counts no bytes
-pub bad_counts : {A : Type 0} (n : ℕ) → ◌≡◌ {A = Bytes} Bad (Count n) → A
-bad_counts n e = let z : ◌≡◌ {A = ℕ} 0 1 = cc in absurd (omega arith)
+-- chunk i of two elements each
+pub chunk_at : (k i : ℕ) (s : List ℕ) → i < k → 2 * k ≤ length s → get_or (first_chunks 2 k s) i [] ≡ get_or s (2 * i) 0 ∷ get_or s (suc (2 * i)) 0 ∷ []
+chunk_at zero i s h g = absurd (omega arith)
+chunk_at (suc k) i [] h g = absurd (omega arith)
+chunk_at (suc k) i (x ∷ []) h g = absurd (omega arith)
+chunk_at (suc k) zero (x ∷ y ∷ xs) h g = refl
+chunk_at (suc k) (suc i) (x ∷ y ∷ xs) h g =
+    let a : 2 * suc i ≡ suc (suc (2 * i)) = omega arith in
+    rw a (chunk_at k i xs (omega arith) (omega arith))
 
-pub long_counts : {A : Type 0} (n : ℕ) → ◌≡◌ {A = Bytes} Long (Count n) → A
-long_counts n e = let z : ◌≡◌ {A = ℕ} 0 1 = cc in absurd (omega arith)
+none_by : (a b r : Bool) (v : ℕ) → cond a None (cond b None (Some v)) ≡ None → cond a false (cond b false r) ≡ false
+none_by true b r v e = refl
+none_by false true r v e = refl
+none_by false false r v e = cc
 
--- a count is one number
-pub one_count : (m n : ℕ) → ◌≡◌ {A = Bytes} (Count m) (Count n) → n ≡ m
-one_count m n e = cc
+some_by : (a b r : Bool) (v w : ℕ) → cond a None (cond b None (Some v)) ≡ Some w → (cond a false (cond b false r) ≡ r) × (v ≡ w)
+some_by true b r v w e = cc
+some_by false true r v w e = cc
+some_by false false r v w e = (refl, cc)
+
+module _ (s : List ℕ) (i : ℕ) (h : suc (2 * i) < length s) where
+  -- a pair, and those after it
+  two : drop (2 * i) s ≡ get_or s (2 * i) 0 ∷ get_or s (suc (2 * i)) 0 ∷ drop (2 * (i + 1)) s
+  two =
+      let b : 2 * (i + 1) ≡ suc (suc (2 * i)) = omega arith in
+      let here : 2 * i < length s = omega arith in
+      rw (b, drop-cons s (2 * i) 0 here, drop-cons s (suc (2 * i)) 0 h)
+
+  -- a pair that spells no byte
+  pub pair_none : byte_of (get_or s (2 * i) 0) (get_or s (suc (2 * i)) 0) ≡ None → all_pairs (drop (2 * i) s) ≡ false
+  unfolding all_pairs
+  pair_none e = rw two (none_by _ _ _ _ e)
+
+  -- a pair that spells a byte
+  pub pair_some : (v : ℕ) → byte_of (get_or s (2 * i) 0) (get_or s (suc (2 * i)) 0) ≡ Some v
+      → (all_pairs (drop (2 * i) s) ≡ all_pairs (drop (2 * (i + 1)) s)) × (spelled (drop (2 * i) s) ≡ v ∷ spelled (drop (2 * (i + 1)) s))
+  unfolding all_pairs spelled
+  pair_some v e = let p = some_by _ _ (all_pairs (drop (2 * (i + 1)) s)) _ v e in (rw two p.0, rw two (rw p.1))
 
 -- one more byte
 pub next_byte : (out rest : List ℕ) (i v : ℕ) → i < length out → take (i + 1) (set out i v) ++ rest ≡ take i out ++ v ∷ rest
@@ -38,32 +56,3 @@ module _ (s : List ℕ) (i : ℕ) (h : length s ≤ 2 * i) where
   pub all-bytes : (out : List ℕ) → take i out ++ spelled (drop (2 * i) s) ≡ spelled s → take i out ≡ spelled s
   unfolding spelled
   all-bytes out e = sym (append-nil (take i out)) ∙ (rw (drop_of_length-le s h) at e)
-
-module _ (s : List ℕ) (i : ℕ) (h : 2 * i + 1 < length s) where
-  -- a pair, and those after it
-  two : drop (2 * i) s ≡ get_or s (2 * i) 0 ∷ get_or s (2 * i + 1) 0 ∷ drop (2 * (i + 1)) s
-  two =
-      let a : suc (2 * i) ≡ 2 * i + 1 = omega arith in
-      let b : suc (2 * i + 1) ≡ 2 * (i + 1) = omega arith in
-      let here : 2 * i < length s = omega arith in
-      rw (drop-cons s (2 * i) 0 here, a, drop-cons s (2 * i + 1) 0 h, b)
-
-  -- a first byte that is no digit
-  pub high_bad : 15 < digit_of (get_or s (2 * i) 0) → all_pairs (drop (2 * i) s) ≡ false
-  unfolding all_pairs
-  high_bad g = rw (two, lt-ltb _ _ g)
-
-  -- a second byte that is none
-  pub low_bad : digit_of (get_or s (2 * i) 0) ≤ 15 → 15 < digit_of (get_or s (2 * i + 1) 0) → all_pairs (drop (2 * i) s) ≡ false
-  unfolding all_pairs
-  low_bad f g = rw (two, le-ltb _ _ f, lt-ltb _ _ g)
-
-  -- a pair of digits
-  pub pair_good : digit_of (get_or s (2 * i) 0) ≤ 15 → digit_of (get_or s (2 * i + 1) 0) ≤ 15 → all_pairs (drop (2 * i) s) ≡ all_pairs (drop (2 * (i + 1)) s)
-  unfolding all_pairs
-  pair_good f g = rw (two, le-ltb _ _ f, le-ltb _ _ g)
-
-  -- its byte
-  pub pair_byte : spelled (drop (2 * i) s) ≡ (16 * digit_of (get_or s (2 * i) 0) + digit_of (get_or s (2 * i + 1) 0)) ∷ spelled (drop (2 * (i + 1)) s)
-  unfolding spelled
-  pair_byte = rw two

@@ -1,9 +1,8 @@
 -- What is shown can be typed: the digits of bytes spell these bytes. And examples at the borders.
-use Rattle.std.specs.Prelude.{◌≡◌, refl, Bool, true, false, List, [], ◌∷◌, ◌++◌, ℕ, ◌+◌, ◌/◌, ◌%◌, ◌≤◌, ◌<◌, ltb}
+use Rattle.std.specs.Prelude.{◌≡◌, refl, Bool, true, false, List, [], ◌∷◌, ◌++◌, ℕ, ◌+◌, ◌/◌, ◌%◌, ◌≤◌, ◌<◌, ltb, Some, None}
 use Rattle.std.proofs.Common.{ap₂, arith, lt-ltb, le-ltb, ltb-true, ltb-false}
 use Rattle.tool.specs.Numbers.{digit_of, all_digits, spell, settled, number_in, number_of}
 use Rattle.tool.specs.Hex.{glyph, pair, spelled}
-use Rattle.tool.specs.declared.number.Number.TheVariants.{Bad, Is}
 
 -- a digit below 10 has the value that it shows
 low_digit : (n : ℕ) → n < 10 → digit_of (48 + n) ≡ n
@@ -53,11 +52,11 @@ unfolding digit_of all_digits spell settled number_in number_of glyph pair spell
 opened = tt
 
 -- "4294967295" is the largest number, "4294967296" is none; "0xFf" is 255, "0x" none, "ff" none; the digits of 171 are "ab"
-pub borders : (number_of (52 ∷ 50 ∷ 57 ∷ 52 ∷ 57 ∷ 54 ∷ 55 ∷ 50 ∷ 57 ∷ 53 ∷ []) ≡ Is 4294967295)
-    × (number_of (52 ∷ 50 ∷ 57 ∷ 52 ∷ 57 ∷ 54 ∷ 55 ∷ 50 ∷ 57 ∷ 54 ∷ []) ≡ Bad)
-    × (number_of (48 ∷ 120 ∷ 70 ∷ 102 ∷ []) ≡ Is 255)
-    × (number_of (48 ∷ 120 ∷ []) ≡ Bad)
-    × (number_of (102 ∷ 102 ∷ []) ≡ Bad)
+pub borders : (number_of (52 ∷ 50 ∷ 57 ∷ 52 ∷ 57 ∷ 54 ∷ 55 ∷ 50 ∷ 57 ∷ 53 ∷ []) ≡ Some 4294967295)
+    × (number_of (52 ∷ 50 ∷ 57 ∷ 52 ∷ 57 ∷ 54 ∷ 55 ∷ 50 ∷ 57 ∷ 54 ∷ []) ≡ None)
+    × (number_of (48 ∷ 120 ∷ 70 ∷ 102 ∷ []) ≡ Some 255)
+    × (number_of (48 ∷ 120 ∷ []) ≡ None)
+    × (number_of (102 ∷ 102 ∷ []) ≡ None)
     × (pair 171 ≡ 97 ∷ 98 ∷ [])
 unfolding opened
 borders = (refl, refl, refl, refl, refl, refl)

@@ -1,7 +1,6 @@
 -- what the contracts of the tool's pure parts cite
 pub mod Numbers
 pub mod Hex
-pub mod Scan
 pub mod Words
 pub mod Bars
 pub mod Last

@@ -1,7 +1,5 @@
 -- Typed numbers: the digits of a base, and the number that they spell.
-use Rattle.std.specs.Prelude.{Bool, true, false, cond, List, [], ◌∷◌, ℕ, ◌+◌, ◌-◌, ◌*◌, length, get_or, drop, ltb, eqb}
-use Rattle.tool.specs.declared.number.Number.{Number}
-use Rattle.tool.specs.declared.number.Number.TheVariants.{Bad, Is}
+use Rattle.std.specs.Prelude.{Bool, true, false, cond, List, [], ◌∷◌, ℕ, ◌+◌, ◌-◌, ◌*◌, length, get_or, drop, ltb, eqb, Option, Some, None}
 
 -- a digit's value: 0 to 9, a to f and A to F; 16 for any other byte
 unfoldable pub digit_of : ℕ → ℕ
@@ -24,15 +22,15 @@ spell base n [] = n
 spell base n (x ∷ xs) = spell base (n * base + digit_of x) xs
 
 -- the number that digits spell after those that spell n, where all are digits and it has 32 bits
-unfoldable pub settled : ℕ → ℕ → List ℕ → Number
-settled base n s = cond (all_digits base s) (cond (ltb (spell base n s) 4294967296) (Is (spell base n s)) Bad) Bad
+unfoldable pub settled : ℕ → ℕ → List ℕ → Option ℕ
+settled base n s = cond (all_digits base s) (cond (ltb (spell base n s) 4294967296) (Some (spell base n s)) None) None
 
 -- the number that one digit or more spell
-unfoldable pub number_in : ℕ → List ℕ → Number
-number_in base s = cond (eqb (length s) 0) Bad (settled base 0 s)
+abbrev pub number_in : ℕ → List ℕ → Option ℕ
+number_in base s = cond (eqb (length s) 0) None (settled base 0 s)
 
 -- after 0x hexadecimal, else decimal
-unfoldable pub number_of : List ℕ → Number
+abbrev pub number_of : List ℕ → Option ℕ
 number_of s =
     cond (ltb (length s) 2) (number_in 10 s)
     (cond (eqb (get_or s 0 0) 48)

@@ -1,15 +1,14 @@
 // Bytes as pairs of hexadecimal digits, out and in.
-ghost use Rattle.std.specs.Prelude.{◌≡◌, ℕ, ◌<◌, length, take};
-ghost use Rattle.tool.specs.Hex.{glyph, pair, spelled, hex_answer};
+ghost use Rattle.std.specs.Prelude.{◌≡◌, ◌<◌, length, take, IfOk};
+ghost use Rattle.tool.specs.Hex.{glyph, pair, spelled, byte_of, hex_answer};
 
 use crate::number::digit;
 
-// What typed bytes are: no pairs of digits, more than there is room for, or so many.
-#[derive(Clone, Copy)]
-pub enum Bytes {
+// Why typed bytes are not taken: they are no pairs of digits, or more than there is room for.
+#[derive(Clone, Copy, PartialEq, Eq, Debug)]
+pub enum HexError {
     Bad,
     Long,
-    Count(usize),
 }
 
 // The digit of a number below 16.
@@ -17,10 +16,7 @@ fn glyph(n: u8) -> u8
     requires { n < 16 }
     ensures { result ≡ glyph n }
 {
-    if n < 10 {
-        return 48 + n;
-    }
-    87 + n
+    if n < 10 { b'0' + n } else { b'a' - 10 + n }
 }
 
 // The two digits of a byte.
@@ -30,30 +26,27 @@ pub fn show(b: u8) -> [u8; 2]
     [glyph(b / 16), glyph(b % 16)]
 }
 
-// The bytes that pairs of digits spell, at the start of out.
-pub fn read(s: &[u8], out: &mut [u8]) -> Bytes
-    ensures value { result ≡ hex_answer s.now (length out.old) }
-    ensures by_index { (n : ℕ) → result ≡ Bytes.Count n → take n out.new ≡ spelled s.now }
+// The byte that two digits spell.
+fn byte(high: u8, low: u8) -> Option<u8>
+    ensures { result ≡ byte_of high low }
 {
-    let n = s.len() / 2;
-    if s.len() % 2 != 0 {
-        return Bytes::Bad;
+    Some((16 * digit(high)? + digit(low)?) as u8)
+}
+
+// The bytes that pairs of digits spell, at the start of out: how many.
+pub fn read(s: &[u8], out: &mut [u8]) -> Result<usize, HexError>
+    ensures value { result ≡ hex_answer s.now (length out.old) }
+    ensures bytes { IfOk result (λ n. take n out.new ≡ spelled s.now) }
+{
+    let (pairs, rest) = s.as_chunks::<2>();
+    if !rest.is_empty() {
+        return Err(HexError::Bad);
     }
-    if out.len() < n {
-        return Bytes::Long;
+    if out.len() < pairs.len() {
+        return Err(HexError::Long);
     }
-    let mut i: usize = 0;
-    while i < n {
-        let high = digit(s[2 * i]);
-        let low = digit(s[2 * i + 1]);
-        if 15 < high {
-            return Bytes::Bad;
-        }
-        if 15 < low {
-            return Bytes::Bad;
-        }
-        out[i] = (16 * high + low) as u8;
-        i += 1;
+    for (i, [high, low]) in pairs.iter().enumerate() {
+        out[i] = byte(*high, *low).ok_or(HexError::Bad)?;
     }
-    Bytes::Count(n)
+    Ok(pairs.len())
 }

@@ -1,77 +1,46 @@
 // Numbers as they are typed: decimal, or hexadecimal after 0x.
-ghost use Rattle.std.specs.Prelude.{◌≡◌, ◌*◌, ◌<◌, ◌≤◌};
+ghost use Rattle.std.specs.Prelude.{◌≡◌, ◌*◌, ◌<◌, ◌≤◌, SomeIff};
 ghost use Rattle.tool.specs.Numbers.{digit_of, number_in, number_of};
 
-// A number that fits 32 bits, or none.
-#[derive(Clone, Copy)]
-pub enum Number {
-    Bad,
-    Is(u32),
-}
-
-// The value of a digit, of either case; 16 for any other byte.
-pub fn digit(b: u8) -> u64
-    ensures { (result ≡ digit_of b) × (result ≤ 16) }
+// The value of a hexadecimal digit, of either case.
+pub fn digit(b: u8) -> Option<u32>
+    ensures { SomeIff result (digit_of b < 16) (digit_of b) }
 {
-    if b < 48 {
-        return 16;
-    }
-    if b < 58 {
-        return (b - 48) as u64;
-    }
-    if b < 65 {
-        return 16;
-    }
-    if b < 71 {
-        return (b - 55) as u64;
-    }
-    if b < 97 {
-        return 16;
-    }
-    if b < 103 {
-        return (b - 87) as u64;
-    }
-    16
+    char::from(b).to_digit(16)
 }
 
-// The number that digits of a base spell.
-fn read_in(s: &[u8], base: u64) -> Number
+// The value of a digit of this base.
+fn digit_in(b: u8, base: u32) -> Option<u32>
+    requires { base ≤ 16 }
+    ensures { SomeIff result (digit_of b < base) (digit_of b) }
+{
+    digit(b).filter(|d| *d < base)
+}
+
+// The number that digits of a base spell, where it has 32 bits.
+fn read_in(s: &[u8], base: u32) -> Option<u32>
     requires { (0 < base) × (base ≤ 16) }
     ensures { result ≡ number_in base s.now }
 {
-    if s.len() == 0 {
-        return Number::Bad;
+    if s.is_empty() {
+        return None;
     }
-    let mut n: u64 = 0;
-    let mut i: usize = 0;
-    while i < s.len() {
-        let d = digit(s[i]);
-        if base <= d {
-            return Number::Bad;
-        }
-        n = n * base + d;
-        if 4294967296 <= n {
-            return Number::Bad;
-        }
-        i += 1;
+    let mut n: u32 = 0;
+    for b in s {
+        let d = digit_in(*b, base)?;
+        n = n.checked_mul(base)?.checked_add(d)?;
     }
-    Number::Is(n as u32)
+    Some(n)
 }
 
-// The number that is typed here.
-pub fn read(s: &[u8]) -> Number
+// The number that is typed here, where it is one of 32 bits.
+pub fn read(s: &[u8]) -> Option<u32>
     ensures { result ≡ number_of s.now }
 {
-    if s.len() < 2 {
-        return read_in(s, 10);
+    match s {
+        [b'0', b'x', digits @ ..] => read_in(digits, 16),
+        _ => read_in(s, 10),
     }
-    if s[0] != 48 {
-        return read_in(s, 10);
-    }
-    if s[1] != 120 {
-        return read_in(s, 10);
-    }
-    read_in(&s[2..], 16)
 }
 
 // The product of two numbers.

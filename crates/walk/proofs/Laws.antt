@@ -7,42 +7,45 @@ use mathlib.Core.List.{List, [], ◌∷◌}
 use lib.Dec.{leb}
 use lib.ListN.{length}
 use borrow.Author.Tests.{ltb-true, leb-true, eq-eqb, ne_eqb}
+use Rattle.std.specs.Prelude.{Option, None, Some}
 use Rattle.rules.specs.declared.{Geo.Geo, Cursor.Cursor, PageState.PageState, PageState.TheVariants.Open, PageState.TheVariants.PartialOpen, PageState.TheVariants.Closed, PageState.TheVariants.Corrupted}
 use Rattle.rules.specs.Held.{Held}
 use Rattle.rules.specs.Bytes.{pick, both}
 use Rattle.rules.specs.Items.{Entry, Scan, item_of, is_present, size, read, presents}
 use Rattle.rules.specs.Pages.{same, state, next, ring_up, is_page, data_at, end_at, items_of}
 use Rattle.rules.specs.Sound.{All}
-use Rattle.rules.specs.Walk.{ended, head_step, rest_of, later_pages, in_order, walk_step}
-use Rattle.rules.specs.Walk as rules
+use Rattle.rules.specs.Walk.{Step, ended, head_step, rest_of, later_pages, in_order, walk_step}
 use Rattle.laws.specs.Geometry.{page_in}
 use Rattle.laws.specs.Entries.{All-presents}
 use Rattle.laws.specs.Scans.{scan_fuel}
-use Rattle.items.specs.declared.{Read.Read, Read.TheVariants.End, Read.TheVariants.Skip, Read.TheVariants.Item, Spot.Spot, Spot.TheVariants.Corrupt, Spot.TheVariants.Missing, Spot.TheVariants.At}
+use Rattle.items.specs.declared.Read.{Read}
+use Rattle.items.specs.declared.Read.TheVariants.{End, Skip, Item}
+use Rattle.items.specs.declared.Spot.{Spot}
 use Rattle.items.specs.Code.{part, read_of, scan_in}
 use Rattle.items.proofs.Laws.{long_part, in_none, by_end, by_skip, by_item}
 use Rattle.ring.specs.Code.{ups}
 use Rattle.ring.proofs.Laws.{scan_is}
-use Rattle.walk.specs.declared.{Step.Step, Step.TheVariants.Ended, Step.TheVariants.Stepped}
+use Rattle.walk.specs.declared.Stepped.{Stepped}
 use Rattle.walk.specs.Code.{head_spot, told_step, is_listed, page_step}
 use Rattle.laws.specs.Plain.{Plain, scan-plain}
 use Rattle.walk.proofs.Entry.{Own, own}
 
 -- ---- the first item from a place on: X is the answer from the loop's start
 
-module _ (w : ℕ) (hw : 0 < w) (img : List ℕ) (e : ℕ) (he : e ≤ length img) (a : ℕ) (X : Spot) (x : head_spot (presents (scan_in w img a e).items) ≡ X) where
-  pub first_none : e ≤ a → Missing ≡ X
+module _ (w : ℕ) (hw : 0 < w) (img : List ℕ) (e : ℕ) (he : e ≤ length img) (a : ℕ) (X : Option Spot)
+    (x : head_spot (presents (scan_in w img a e).items) ≡ X) where
+  pub first_none : e ≤ a → None ≡ X
   first_none h = rw (in_none w hw img e he a h) at x
 
   module _ (r : Read) (h : a < e) (q : read_of (part img a e) r ≡ read w (part img a e)) where
-    pub first_end : r ≡ End → Missing ≡ X
+    pub first_end : r ≡ End → None ≡ X
     first_end t = rw (by_end w hw img e he a r h q t) at x
 
     pub first_skip : r ≡ Skip → head_spot (presents (scan_in w img (a + w) e).items) ≡ X
     first_skip t = sym (ap (λ (s : Scan). head_spot (presents s.items)) (by_skip w hw img e he a r h q t)) ∙ x
 
     module _ (L : ℕ) (b : Bool) (t : r ≡ Item L) (p : b ≡ is_present (item_of (part img a e) L).kind) where
-      pub first_at : b ≡ true → At a L ≡ X
+      pub first_at : b ≡ true → Some (record { at = a; len = L }) ≡ X
       first_at y = let z : is_present (item_of (part img a e) L).kind ≡ true = sym p ∙ y in rw (by_item w hw img e he a r h q L t, z) at x
 
       pub first_on : b ≡ false → head_spot (presents (scan_in w img (a + size w L) e).items) ≡ X
@@ -50,43 +53,32 @@ module _ (w : ℕ) (hw : 0 < w) (img : List ℕ) (e : ℕ) (he : e ≤ length im
 
 -- ---- a step to the first of entries
 
-abbrev place_in : Spot → ℕ
-place_in Corrupt = 0
-place_in Missing = 0
-place_in (At p L) = p
-
-abbrev len_in : Spot → ℕ
-len_in Corrupt = 0
-len_in Missing = 0
-len_in (At p L) = L
-
 module _ (G : Geo) (first q : ℕ) where
-  head_bad : (l : List Entry) → Corrupt ≡ head_spot l → Ended ≡ told_step (head_step G first q l ended)
-  head_bad [] h = let z : ◌≡◌ {A = ℕ} 0 1 = cc in absurd (omega arith)
-  head_bad (x ∷ xs) h = let z : ◌≡◌ {A = ℕ} 0 1 = cc in absurd (omega arith)
-
-  head_none : (l : List Entry) → Missing ≡ head_spot l → Ended ≡ told_step (head_step G first q l ended)
-  head_none [] h = refl
-  head_none (x ∷ xs) h = let z : ◌≡◌ {A = ℕ} 0 1 = cc in absurd (omega arith)
-
-  head_at : (img : List ℕ) (e p L : ℕ) (l : List Entry) → At p L ≡ head_spot l → All (λ x. Plain x.it) l → All (Own img e) l
-      → Stepped (item_of (part img p e) L).key (p + 12) (L - 4) (record { first = first; page = q; place = p + size G.word L }) ≡ told_step (head_step G first q l ended)
-  head_at img e p L [] h a o = let z : ◌≡◌ {A = ℕ} 0 1 = cc in absurd (omega arith)
-  head_at img e p L (x ∷ xs) h a o =
-      let hp : p ≡ x.at = ap place_in h in
-      let h_l : L ≡ x.it.len = ap len_in h in
+  head_some : (img : List ℕ) (e : ℕ) (s : Spot) (l : List Entry) → Some s ≡ head_spot l
+      → All (λ x. Plain x.it) l → All (Own img e) l
+      → Some (record {
+        key = (item_of (part img s.at e) s.len).key;
+        place = s.at + 12;
+        len = s.len - 4;
+        cursor = record { first = first; page = q; place = s.at + size G.word s.len };
+      })
+      ≡ told_step (head_step G first q l ended)
+  head_some img e s [] h a o = cc
+  head_some img e s (x ∷ xs) h a o =
+      let p : s.at ≡ x.at = cc in
+      let n : s.len ≡ x.it.len = cc in
       let k = ap (λ (i : _). i.key) o.0 in
-      rw (hp, h_l, a.0.0, a.0.1, k)
+      rw (p, n, a.0.0, a.0.1, k)
 
 -- the first, else the second
-abbrev or_step : Step → Step → Step
-or_step Ended r = r
-or_step (Stepped k p l c) r = Stepped k p l c
+abbrev or_step : Option Stepped → Option Stepped → Option Stepped
+or_step None r = r
+or_step (Some s) r = Some s
 
 abbrev first_of : List ℕ → Geo → Cursor → List Entry
 first_of img G c = presents (scan_in G.word img c.place (end_at G c.page)).items
 
-told_head : (G : Geo) (first q : ℕ) (l : List Entry) (r : rules.Step) → told_step (head_step G first q l r) ≡ or_step (told_step (head_step G first q l ended)) (told_step r)
+told_head : (G : Geo) (first q : ℕ) (l : List Entry) (r : Step) → told_step (head_step G first q l r) ≡ or_step (told_step (head_step G first q l ended)) (told_step r)
 told_head G first q [] r = refl
 told_head G first q (x ∷ xs) r = refl
 
@@ -96,38 +88,39 @@ end_in G len p h hp = omega (arith, page_in G.page p G.pages hp, h.room)
 
 -- ---- a step in a page: s is what the code found, e where the data area ends
 
-module _ (G : Geo) (img : List ℕ) (c : Cursor) (e : ℕ) (s : Spot) (he : e ≡ end_at G c.page) (hs : s ≡ head_spot (presents (scan_in G.word img c.place e).items)) where
-  pub in_bad : s ≡ Corrupt → Ended ≡ told_step (head_step G c.first c.page (first_of img G c) ended)
-  in_bad t = head_bad G c.first c.page (first_of img G c) (rw (← he) (sym t ∙ hs))
-
-  pub in_missing : s ≡ Missing → Ended ≡ told_step (head_step G c.first c.page (first_of img G c) ended)
-  in_missing t = head_none G c.first c.page (first_of img G c) (rw (← he) (sym t ∙ hs))
-
-  pub in_at : (p L z k : ℕ) → s ≡ At p L → z ≡ size G.word L → k ≡ (item_of (part img p e) L).key → 0 < G.word → e ≤ length img
-      → Stepped k (p + 12) (L - 4) (record { first = c.first; page = c.page; place = p + z }) ≡ told_step (head_step G c.first c.page (first_of img G c) ended)
-  in_at p L z k t hz hk hw hl =
+module _ (G : Geo) (img : List ℕ) (c : Cursor) (e : ℕ) (s : Option Spot) (he : e ≡ end_at G c.page)
+    (hs : s ≡ head_spot (presents (scan_in G.word img c.place e).items)) where
+  pub in_at : (f : Spot) (z k : ℕ) → s ≡ Some f → z ≡ size G.word f.len
+      → k ≡ (item_of (part img f.at e) f.len).key → 0 < G.word → e ≤ length img
+      → Some (record {
+        key = k;
+        place = f.at + 12;
+        len = f.len - 4;
+        cursor = record { first = c.first; page = c.page; place = f.at + z };
+      })
+      ≡ told_step (head_step G c.first c.page (first_of img G c) ended)
+  in_at f z k t hz hk hw hl =
       let l = (scan_in G.word img c.place e).items in
       let a = All-presents (λ x. Plain x.it) l (scan-plain G.word (e - c.place) c.place (part img c.place e)) in
       let o = All-presents (Own img e) l (own G.word hw img e hl (e - c.place) c.place) in
-      rw (hz, hk, ← he) (head_at G c.first c.page img e p L (presents l) (sym t ∙ hs) a o)
+      rw (hz, hk, ← he) (head_some G c.first c.page img e f (presents l) (sym t ∙ hs) a o)
 
 -- ---- the later pages
 
-listed_is : (s : PageState) (x r : rules.Step) → pick (same Closed s) x (pick (same PartialOpen s) x r) ≡ pick (is_listed s) x r
+listed_is : (s : PageState) (x r : Step) → pick (same Closed s) x (pick (same PartialOpen s) x r) ≡ pick (is_listed s) x r
 listed_is Open x r = refl
 listed_is PartialOpen x r = refl
 listed_is Closed x r = refl
 listed_is Corrupted x r = refl
 
 module _ (G : Geo) (img : List ℕ) (first q : ℕ) where
-  pub page-no : (b : Bool) → b ≡ is_listed (state G img q) → b ≡ false → Ended ≡ told_step (page_step G img first q ended)
-  page-no b p h = rw (← p, h)
-
-  pub page_yes : (b : Bool) (a : ℕ) (r : Step) → b ≡ is_listed (state G img q) → b ≡ true → a ≡ data_at G q → 2 * G.word ≤ G.page
-      → r ≡ told_step (head_step G first q (presents (scan_in G.word img a (end_at G q)).items) ended) → r ≡ told_step (page_step G img first q ended)
+  pub page_yes : (b : Bool) (a : ℕ) (r : Option Stepped) → b ≡ is_listed (state G img q) → b ≡ true
+      → a ≡ data_at G q → 2 * G.word ≤ G.page
+      → r ≡ told_step (head_step G first q (presents (scan_in G.word img a (end_at G q)).items) ended)
+      → r ≡ told_step (page_step G img first q ended)
   page_yes b a r p h ha hw hr = rw (← p, h, scan_is G img q hw, ← ha) hr
 
-  told-page : (r : rules.Step) → told_step (page_step G img first q r) ≡ or_step (told_step (page_step G img first q ended)) (told_step r)
+  told-page : (r : Step) → told_step (page_step G img first q r) ≡ or_step (told_step (page_step G img first q ended)) (told_step r)
   told-page r = go (is_listed (state G img q))
     where
       go : (b : Bool) → told_step (pick b (head_step G first q (items_of G img q) r) r) ≡ or_step (told_step (pick b (head_step G first q (items_of G img q) ended) ended)) (told_step r)
@@ -135,8 +128,8 @@ module _ (G : Geo) (img : List ℕ) (first q : ℕ) where
       go false = refl
 
   -- X is the answer from the loop's start, m the pages that are left
-  module _ (m : ℕ) (X : Step) (h : 0 < m) (x : told_step (later_pages G img first (ups G m q)) ≡ X) where
-    pub later_first : q ≡ first → Ended ≡ X
+  module _ (m : ℕ) (X : Option Stepped) (h : 0 < m) (x : told_step (later_pages G img first (ups G m q)) ≡ X) where
+    pub later_first : q ≡ first → None ≡ X
     unfolding ups
     later_first e = let z : m ≡ suc (m - 1) = omega arith in rw (z, eq-eqb q first e) at x
 
@@ -148,14 +141,16 @@ module _ (G : Geo) (img : List ℕ) (first q : ℕ) where
         let y = rw (z, ne_eqb q first n, listed_is (state G img q) (head_step G first q (items_of G img q) r) r) at x in
         sym (told-page r) ∙ y
 
-    pub later-stepped : (s : Step) (k p l : ℕ) (c : Cursor) → s ≡ told_step (page_step G img first q ended) → s ≡ Stepped k p l c → (q ≡ first → ⊥) → Stepped k p l c ≡ X
-    later-stepped s k p l c hs t n = rw (← hs, t) at (later-on n)
+    pub later-stepped : (s : Option Stepped) (t : Stepped) → s ≡ told_step (page_step G img first q ended)
+        → s ≡ Some t → (q ≡ first → ⊥) → Some t ≡ X
+    later-stepped s t hs e n = rw (← hs, e) at (later-on n)
 
-    pub later-ended : (s : Step) (q' : ℕ) → s ≡ told_step (page_step G img first q ended) → s ≡ Ended → (q ≡ first → ⊥) → q' ≡ next G q
+    pub later-ended : (s : Option Stepped) (q' : ℕ) → s ≡ told_step (page_step G img first q ended)
+        → s ≡ None → (q ≡ first → ⊥) → q' ≡ next G q
         → told_step (later_pages G img first (ups G (m - 1) q')) ≡ X
     later-ended s q' hs t n hq = rw hq (rw (← hs, t) at (later-on n))
 
-  pub later-none : (m : ℕ) (X : Step) → m ≤ 0 → told_step (later_pages G img first (ups G m q)) ≡ X → Ended ≡ X
+  pub later-none : (m : ℕ) (X : Option Stepped) → m ≤ 0 → told_step (later_pages G img first (ups G m q)) ≡ X → None ≡ X
   unfolding ups
   later-none m X h x = let z : m ≡ 0 = omega arith in rw z at x
 
@@ -181,11 +176,12 @@ rest_is G img p a h hp ha =
     ap (λ (s : Scan). presents s.items) (scan_fuel G.word (omega (arith, h.low)) G.page (end_at G p - a) a (part img a (end_at G p)) (omega arith) (omega arith))
 
 module _ (G : Geo) (img : List ℕ) (c : Cursor) (b : Bool) (p : b ≡ in_order G c) where
-  pub step_no : b ≡ false → Ended ≡ told_step (walk_step G img c)
+  pub step_no : b ≡ false → None ≡ told_step (walk_step G img c)
   unfolding walk_step
   step_no h = rw (← p, h)
 
-  module _ (s : Step) (h : b ≡ true) (hd : Held G (length img)) (hs : s ≡ told_step (head_step G c.first c.page (first_of img G c) ended)) where
+  module _ (s : Option Stepped) (h : b ≡ true) (hd : Held G (length img))
+      (hs : s ≡ told_step (head_step G c.first c.page (first_of img G c) ended)) where
     step_on : told_step (walk_step G img c) ≡ or_step s (told_step (later_pages G img c.first (ring_up G (next G c.page))))
     unfolding walk_step
     step_on =
@@ -193,8 +189,9 @@ module _ (G : Geo) (img : List ℕ) (c : Cursor) (b : Bool) (p : b ≡ in_order 
         rw (← p, h, hs, rest_is G img c.page c.place hd o.0 o.1)
         (told_head G c.first c.page (first_of img G c) (later_pages G img c.first (ring_up G (next G c.page))))
 
-    pub step_stepped : (k a l : ℕ) (d : Cursor) → s ≡ Stepped k a l d → Stepped k a l d ≡ told_step (walk_step G img c)
-    step_stepped k a l d t = sym (rw t at step_on)
+    pub step_stepped : (t : Stepped) → s ≡ Some t → Some t ≡ told_step (walk_step G img c)
+    step_stepped t e = sym (rw e at step_on)
 
-    pub step_later : (r : Step) (q : ℕ) → s ≡ Ended → q ≡ next G c.page → r ≡ told_step (later_pages G img c.first (ring_up G q)) → r ≡ told_step (walk_step G img c)
+    pub step_later : (r : Option Stepped) (q : ℕ) → s ≡ None → q ≡ next G c.page
+        → r ≡ told_step (later_pages G img c.first (ring_up G q)) → r ≡ told_step (walk_step G img c)
     step_later r q t hq hr = sym (rw (t, ← hq, ← hr) at step_on)

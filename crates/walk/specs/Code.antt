@@ -1,28 +1,27 @@
 -- What the code's values stand for.
-use Rattle.std.specs.Prelude.{ℕ, ◌+◌, ◌≤◌, ◌<◌, Bool, true, false, List, [], ◌∷◌}
+use Rattle.std.specs.Prelude.{ℕ, ◌+◌, ◌≤◌, ◌<◌, Bool, true, false, List, [], ◌∷◌, Option, None, Some}
 use Rattle.rules.specs.declared.{Geo.Geo, PageState.PageState, PageState.TheVariants.Open, PageState.TheVariants.PartialOpen, PageState.TheVariants.Closed, PageState.TheVariants.Corrupted}
 use Rattle.rules.specs.Bytes.{pick}
 use Rattle.rules.specs.Items.{Entry, size}
 use Rattle.rules.specs.Pages.{state, items_of}
-use Rattle.rules.specs.Walk as rules
-use Rattle.items.specs.declared.{Spot.Spot, Spot.TheVariants.Corrupt, Spot.TheVariants.Missing, Spot.TheVariants.At}
-use Rattle.walk.specs.declared.{Step.Step, Step.TheVariants.Ended, Step.TheVariants.Stepped}
+use Rattle.rules.specs.Walk.{Step, ended, stepped, head_step}
+use Rattle.items.specs.declared.Spot.{Spot}
+use Rattle.walk.specs.declared.Stepped.{Stepped}
 
 -- the first of entries, as a search tells it
-abbrev pub head_spot : List Entry → Spot
-head_spot [] = Missing
-head_spot (x ∷ xs) = At x.at x.it.len
+abbrev pub head_spot : List Entry → Option Spot
+head_spot [] = None
+head_spot (x ∷ xs) = Some (record { at = x.at; len = x.it.len })
 
 -- an item that is found has a key, and ends before e
-abbrev pub Fits : ℕ → ℕ → Spot → Type 0
-Fits w e Corrupt = Unit {0}
-Fits w e Missing = Unit {0}
-Fits w e (At p L) = (p + size w L ≤ e) × (p + 8 + L ≤ e) × (4 ≤ L) × (L < 65536)
+abbrev pub Fits : ℕ → ℕ → Option Spot → Type 0
+Fits w e None = Unit {0}
+Fits w e (Some s) = (s.at + size w s.len ≤ e) × (s.at + 8 + s.len ≤ e) × (4 ≤ s.len) × (s.len < 65536)
 
 -- a step, as the code tells it
-abbrev pub told_step : rules.Step → Step
-told_step rules.ended = Ended
-told_step (rules.stepped x c) = Stepped x.it.key (x.at + x.it.voff) x.it.vlen c
+abbrev pub told_step : Step → Option Stepped
+told_step ended = None
+told_step (stepped x c) = Some (record { key = x.it.key; place = x.at + x.it.voff; len = x.it.vlen; cursor = c })
 
 -- "later ones if Closed or PartialOpen"
 abbrev pub is_listed : PageState → Bool
@@ -32,5 +31,5 @@ is_listed Closed = true
 is_listed Corrupted = false
 
 -- a later page's first entry, where it is listed; else r
-abbrev pub page_step : Geo → List ℕ → ℕ → ℕ → rules.Step → rules.Step
-page_step G img first q r = pick (is_listed (state G img q)) (rules.head_step G first q (items_of G img q) r) r
+abbrev pub page_step : Geo → List ℕ → ℕ → ℕ → Step → Step
+page_step G img first q r = pick (is_listed (state G img q)) (head_step G first q (items_of G img q) r) r

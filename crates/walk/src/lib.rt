@@ -1,8 +1,7 @@
 // The walk: its first page, and a step from a cursor to the next item.
 #![tactic(auto)]
 
-ghost use Rattle.std.specs.Prelude.{◌≡◌, ◌≤◌, ◌<◌, length};
-ghost use Rattle.rules.specs.Held.{Held};
+ghost use Rattle.std.specs.Prelude.{◌≡◌, ◌≤◌, ◌<◌, MatchOption, length};
 ghost use Rattle.rules.specs.Items.{presents};
 ghost use Rattle.rules.specs.Pages.{state, ring_up, end_at};
 ghost use Rattle.rules.specs.Walk.{walk_first, in_order, head_step, later_pages, walk_step, ended};
@@ -10,176 +9,140 @@ ghost use Rattle.items.specs.Code.{scan_in};
 ghost use Rattle.walk.specs.Code.{head_spot, Fits, told_step, is_listed, page_step};
 
 use items::{Read, Spot};
-use rules::{Cursor, Geo, PageState};
+use ring::Pages;
+use rules::{Cursor, PageState};
 
-// What a step answers: the end, or an item's key, its value's place and length, and the next cursor.
-#[derive(Clone, Copy)]
-pub enum Step {
-    Ended,
-    Stepped(u32, usize, usize, Cursor),
+// An item that a step comes to: its key, its value's place and length, and the cursor after it.
+#[derive(Clone, Copy, PartialEq, Eq)]
+pub struct Stepped {
+    pub key: u32,
+    pub place: usize,
+    pub len: usize,
+    pub cursor: Cursor,
 }
 
 // The first Present item from a place to the area's end.
-fn first_in(img: &[u8], a: usize, e: usize, w: usize) -> Spot
+fn first_in(img: &[u8], a: usize, e: usize, w: usize) -> Option<Spot>
     requires { (a ≤ e) × (e ≤ length img.now) × (4 ≤ w) × (w ≤ 8) }
     ensures { (result ≡ head_spot (presents (scan_in w img.now a e).items)) × Fits w e result }
 {
     let mut at = a;
     while at < e {
-        let r = items::look_at(img, at, e, w);
-        match r {
-            Read::End => {
-                return Spot::Missing;
-            }
-            Read::Skip => {
-                at += w;
-                continue;
-            }
+        match items::look_at(img, at, e, w) {
+            Read::End => return None,
+            Read::Skip => at += w,
             Read::Item(len) => {
                 if items::present(&img[at..e], len) {
-                    return Spot::At(at, len);
+                    return Some(Spot { at, len });
                 }
                 at += words::size(w, len);
             }
         }
     }
-    Spot::Missing
+    None
 }
 
 // A step to the first Present item of the cursor's page from its place on.
-fn step_in(img: &[u8], g: Geo, c: Cursor) -> Step
-    requires { Held g (length img.now) × (c.page < g.pages) × (c.place ≤ end_at g c.page) }
-    ensures { result ≡ told_step (head_step g c.first c.page (presents (scan_in g.word img.now c.place (end_at g c.page)).items) ended) }
+fn step_in(pages: &Pages<'_>, cursor: Cursor) -> Option<Stepped>
+    requires { (cursor.page < pages.now.geo.pages) × (cursor.place ≤ end_at pages.now.geo cursor.page) }
+    ensures { let G = pages.now.geo in
+        let items = (scan_in G.word pages.now.img.now cursor.place (end_at G cursor.page)).items in
+        result ≡ told_step (head_step G cursor.first cursor.page (presents items) ended) }
 {
-    let e = ring::end_at(g, c.page, img.len());
-    let r = first_in(img, c.place, e, g.word);
-    match r {
-        Spot::Corrupt => Step::Ended,
-        Spot::Missing => Step::Ended,
-        Spot::At(at, len) => {
-            let value = at + 12;
-            let rest = len - 4;
-            let after = at + words::size(g.word, len);
-            let next = Cursor {
-                first: c.first,
-                page: c.page,
-                place: after,
-            };
-            Step::Stepped(items::key(&img[at..e], len), value, rest, next)
-        }
-    }
+    let word = pages.geo.word;
+    let end = pages.end_at(cursor.page);
+    let Spot { at, len } = first_in(pages.img, cursor.place, end, word)?;
+    Some(Stepped {
+        key: items::key(&pages.img[at..end], len),
+        place: at + 12,
+        len: len - 4,
+        cursor: Cursor {
+            place: at + words::size(word, len),
+            ..cursor
+        },
+    })
 }
 
-// The page that a walk starts at; the number of pages if there is none.
-pub fn walk_first(img: &[u8], g: Geo) -> usize
-    requires { Held g (length img.now) }
-    ensures { (result ≡ walk_first g img.now) × (result ≤ g.pages) }
+// The page that a walk starts at.
+pub fn walk_first(pages: &Pages<'_>) -> Option<usize>
+    ensures { MatchOption result (walk_first pages.now.geo pages.now.img.now ≡ pages.now.geo.pages)
+        (λ p. (p < pages.now.geo.pages) × (p ≡ walk_first pages.now.geo pages.now.img.now)) }
 {
-    let n = g.pages;
-    let p = ring::first(img, g, PageState::PartialOpen);
-    if p < n {
-        return ring::next(g, p);
+    if let Some(partial) = pages.first(PageState::PartialOpen) {
+        return Some(pages.next(partial));
     }
-    let o = ring::first(img, g, PageState::Open);
-    if n <= o {
-        return n;
+    let open = pages.first(PageState::Open)?;
+    if pages.page_is(pages.prev(open), PageState::Closed) {
+        return Some(open);
     }
-    if ring::page_is(img, g, ring::prev(g, o), PageState::Closed) {
-        return o;
-    }
-    0
+    Some(0)
 }
 
 // Does a cursor stand on a word of a page's data area? It may hold any numbers.
-fn in_order(g: Geo, c: Cursor, len: usize) -> bool
-    requires { Held g len }
-    ensures { result ≡ in_order g c }
+fn in_order(pages: &Pages<'_>, cursor: Cursor) -> bool
+    ensures { result ≡ in_order pages.now.geo cursor }
 {
-    if g.pages <= c.page {
-        return false;
-    }
-    if g.pages <= c.first {
-        return false;
-    }
-    if c.place < ring::data_at(g, c.page, len) {
-        return false;
-    }
-    if ring::end_at(g, c.page, len) < c.place {
-        return false;
-    }
-    c.place % g.word == 0
+    cursor.page < pages.geo.pages
+        && cursor.first < pages.geo.pages
+        && pages.data_at(cursor.page) <= cursor.place
+        && cursor.place <= pages.end_at(cursor.page)
+        && cursor.place % pages.geo.word == 0
 }
 
 // Is page q listed where it is not the first of a walk?
-fn listed(img: &[u8], g: Geo, q: usize) -> bool
-    requires { Held g (length img.now) × (q < g.pages) }
-    ensures { result ≡ is_listed (state g img.now q) }
+fn listed(pages: &Pages<'_>, q: usize) -> bool
+    requires { q < pages.now.geo.pages }
+    ensures { result ≡ is_listed (state pages.now.geo pages.now.img.now q) }
 {
-    let s = ring::state(img, g, q);
-    match s {
-        PageState::Open => false,
-        PageState::PartialOpen => true,
-        PageState::Closed => true,
-        PageState::Corrupted => false,
-    }
+    matches!(pages.state(q), PageState::PartialOpen | PageState::Closed)
 }
 
 // A step to the first Present item of page q, where it is listed.
-fn page_step(img: &[u8], g: Geo, first: usize, q: usize) -> Step
-    requires { Held g (length img.now) × (q < g.pages) }
-    ensures { result ≡ told_step (page_step g img.now first q ended) }
+fn page_step(pages: &Pages<'_>, first: usize, q: usize) -> Option<Stepped>
+    requires { q < pages.now.geo.pages }
+    ensures { result ≡ told_step (page_step pages.now.geo pages.now.img.now first q ended) }
 {
-    if listed(img, g, q) {
-        let a = ring::data_at(g, q, img.len());
-        let c = Cursor {
+    if !listed(pages, q) {
+        return None;
+    }
+    let place = pages.data_at(q);
+    step_in(
+        pages,
+        Cursor {
             first,
             page: q,
-            place: a,
-        };
-        return step_in(img, g, c);
-    }
-    Step::Ended
+            place,
+        },
+    )
 }
 
 // A step to the first Present item of the pages from a page upwards, up to the first page.
-fn later(img: &[u8], g: Geo, first: usize, from: usize) -> Step
-    requires { Held g (length img.now) × (from < g.pages) }
-    ensures { result ≡ told_step (later_pages g img.now first (ring_up g from)) }
+fn later(pages: &Pages<'_>, first: usize, from: usize) -> Option<Stepped>
+    requires { from < pages.now.geo.pages }
+    ensures { result ≡ told_step (later_pages pages.now.geo pages.now.img.now first (ring_up pages.now.geo from)) }
 {
     let mut q = from;
-    let mut m = g.pages;
-    while 0 < m {
+    for _ in 0..pages.geo.pages {
         if q == first {
-            return Step::Ended;
+            return None;
         }
-        let r = page_step(img, g, first, q);
-        match r {
-            Step::Stepped(key, place, len, next) => {
-                return Step::Stepped(key, place, len, next);
-            }
-            Step::Ended => {}
+        if let Some(step) = page_step(pages, first, q) {
+            return Some(step);
         }
-        q = ring::next(g, q);
-        m -= 1;
+        q = pages.next(q);
     }
-    Step::Ended
+    None
 }
 
 // A step from any cursor.
-pub fn walk_step(img: &[u8], g: Geo, c: Cursor) -> Step
-    requires { Held g (length img.now) }
-    ensures { result ≡ told_step (walk_step g img.now c) }
+pub fn walk_step(pages: &Pages<'_>, cursor: Cursor) -> Option<Stepped>
+    ensures { result ≡ told_step (walk_step pages.now.geo pages.now.img.now cursor) }
 {
-    if in_order(g, c, img.len()) {
-        let r = step_in(img, g, c);
-        match r {
-            Step::Stepped(key, place, len, next) => {
-                return Step::Stepped(key, place, len, next);
-            }
-            Step::Ended => {
-                return later(img, g, c.first, ring::next(g, c.page));
-            }
-        }
+    if !in_order(pages, cursor) {
+        return None;
     }
-    Step::Ended
+    if let Some(step) = step_in(pages, cursor) {
+        return Some(step);
+    }
+    later(pages, cursor.first, pages.next(cursor.page))
 }

@@ -1,30 +1,18 @@
 // Bytes, zero bits, little-endian numbers, sizes, and the two changes of the image.
 #![tactic(auto)]
 
-ghost use Rattle.std.specs.Prelude.{◌≡◌, ◌+◌, ◌*◌, ◌^◌, ◌≤◌, ◌<◌, min, length, take, drop, replicate};
+ghost use Rattle.std.specs.Prelude.{◌≡◌, ◌+◌, ◌*◌, ◌^◌, ◌≤◌, ◌<◌, length, take, drop, replicate};
 ghost use Rattle.rules.specs.Power.{lasts, spend};
 ghost use Rattle.laws.specs.Power.{Wrote};
 ghost use Rattle.rules.specs.Bytes.{zero_bits, zeros, all_ff, of_le, round_up, splice, program, pick};
 ghost use Rattle.rules.specs.Items.{size};
 
-// A byte as a number, with its bound.
-pub fn wide(b: u8) -> usize
-    ensures { (result ≡ b) × (result < 256) }
-{
-    b as usize
-}
-
-pub fn wide32(b: u8) -> u32
-    ensures { (result ≡ b) × (result < 256) }
-{
-    b as u32
-}
-
 // The zero bits of a byte.
+#[tactic(auto, using(crate::proofs::Laws::byte_zeros))]
 pub fn zero_bits(b: u8) -> u32
     ensures { (result ≡ zero_bits b) × (result ≤ 8) }
 {
-    8 - u8::count_ones(b)
+    b.count_zeros()
 }
 
 // The number that the two bytes at a spell, the lower first.
@@ -32,131 +20,66 @@ pub fn le16(s: &[u8], a: usize) -> usize
     requires { a + 2 ≤ length s.now }
     ensures { (result ≡ of_le (take 2 (drop a s.now))) × (result < 65536) }
 {
-    wide(s[a]) + 256 * wide(s[a + 1])
+    usize::from(u16::from_le_bytes([s[a], s[a + 1]]))
 }
 
-// The number that the four bytes at a spell, the lower first.
+// The number that the four bytes at a spell, the lower first. One generic function would be longer than these two.
 pub fn le32(s: &[u8], a: usize) -> u32
     requires { a + 4 ≤ length s.now }
     ensures { result ≡ of_le (take 4 (drop a s.now)) }
 {
-    wide32(s[a]) + 256 * wide32(s[a + 1]) + 65536 * wide32(s[a + 2]) + 16777216 * wide32(s[a + 3])
-}
-
-// A word as a wider number.
-fn wide64(x: u32) -> u64
-    ensures { (result ≡ x) × (result < 4294967296) }
-{
-    x as u64
-}
-
-// The number that the eight bytes at a spell, the lower first.
-fn le64(s: &[u8], a: usize) -> u64
-    requires { a + 8 ≤ length s.now }
-    ensures { result ≡ of_le (take 8 (drop a s.now)) }
-{
-    wide64(le32(s, a)) + 4294967296 * wide64(le32(s, a + 4))
-}
-
-// Are all bytes from i on 0xFF?
-fn ff_rest(s: &[u8], i: usize) -> bool
-    requires { i ≤ length s.now }
-    ensures { result ≡ all_ff (drop i s.now) }
-{
-    let mut at = i;
-    while at < s.len() {
-        if s[at] != 255 {
-            return false;
-        }
-        at += 1;
-    }
-    true
+    u32::from_le_bytes([s[a], s[a + 1], s[a + 2], s[a + 3]])
 }
 
 // Are all bytes 0xFF? Eight are looked at together.
 pub fn all_ff(s: &[u8]) -> bool
     ensures { result ≡ all_ff s.now }
 {
-    let mut i: usize = 0;
-    while 8 <= s.len() - i {
-        if le64(s, i) != 18446744073709551615 {
-            return false;
-        }
-        i += 8;
-    }
-    ff_rest(s, i)
+    let (eights, rest) = s.as_chunks::<8>();
+    eights
+        .iter()
+        .all(|eight| u64::from_le_bytes(*eight) == u64::MAX)
+        && rest.iter().all(|byte| *byte == u8::MAX)
 }
 
-// The zero bits of the four bytes at a.
-fn zeros4(s: &[u8], a: usize) -> u32
-    requires { a + 4 ≤ length s.now }
-    ensures { (result ≡ zeros (take 4 (drop a s.now))) × (result ≤ 32) }
-{
-    32 - u32::count_ones(le32(s, a))
-}
-
-// The zero bits of the eight bytes at a.
-fn zeros8(s: &[u8], a: usize) -> u32
-    requires { a + 8 ≤ length s.now }
-    ensures { (result ≡ zeros (take 8 (drop a s.now))) × (result ≤ 64) }
-{
-    64 - u64::count_ones(le64(s, a))
-}
-
-// The zero bits of the bytes from i on, byte by byte.
-fn zeros_last(s: &[u8], i: usize) -> u32
-    requires { (i ≤ length s.now) × (length s.now ≤ 65536) }
-    ensures { (result ≡ zeros (drop i s.now)) × (result + 8 * i ≤ 8 * length s.now) }
-{
-    let mut k: u32 = 0;
-    let mut at = i;
-    while at < s.len() {
-        k += zero_bits(s[at]);
-        at += 1;
-    }
-    k
-}
-
-// The zero bits of the bytes from i on, the first four together.
-fn zeros_rest(s: &[u8], i: usize) -> u32
-    requires { (i ≤ length s.now) × (length s.now ≤ 65536) }
-    ensures { (result ≡ zeros (drop i s.now)) × (result + 8 * i ≤ 8 * length s.now) }
-{
-    if 4 <= s.len() - i {
-        return zeros4(s, i) + zeros_last(s, i + 4);
-    }
-    zeros_last(s, i)
-}
-
-// The zero bits of the bytes, eight counted together. Most calls count a word of four.
+// The zero bits of the bytes: of eight at a time, then of four, then of each. Most calls count a word of four, and an
+// item's data often ends in four bytes: one by one they would take a third longer.
 pub fn zeros(s: &[u8]) -> u32
     requires { length s.now ≤ 65536 }
     ensures { (result ≡ zeros s.now) × (result ≤ 8 * length s.now) }
 {
-    if s.len() == 4 {
-        return zeros4(s, 0);
+    if let [a, b, c, d] = *s {
+        return u32::from_le_bytes([a, b, c, d]).count_zeros();
     }
-    let mut k: u32 = 0;
-    let mut i: usize = 0;
-    while 8 <= s.len() - i {
-        k += zeros8(s, i);
-        i += 8;
-    }
-    k + zeros_rest(s, i)
+    let (eights, rest) = s.as_chunks::<8>();
+    let (fours, bytes) = rest.as_chunks::<4>();
+    let in_eights: u32 = eights
+        .iter()
+        .map(|eight| u64::from_le_bytes(*eight).count_zeros())
+        .sum();
+    let in_fours: u32 = fours
+        .iter()
+        .map(|four| u32::from_le_bytes(*four).count_zeros())
+        .sum();
+    let in_bytes: u32 = bytes.iter().map(|byte| zero_bits(*byte)).sum();
+    in_eights + in_fours + in_bytes
 }
 
-// x rounded up to a multiple of a word.
+// x rounded up to a multiple of a word. The usual word of four bytes needs no division.
+#[tactic(auto, using(crate::proofs::Laws::multiple_is))]
 pub fn round_up(w: usize, x: usize) -> usize
     requires { (4 ≤ w) × (w ≤ 8) × (x < 2 ^ 63) }
     ensures { (result ≡ round_up w x) × (x ≤ result) × (result < x + w) }
 {
     if w == 4 {
-        return (x + 3) / 4 * 4;
+        x.next_multiple_of(4)
+    } else {
+        x.next_multiple_of(w)
     }
-    (x + (w - 1)) / w * w
 }
 
 // The bytes that an item of data length len takes.
+#[tactic(auto, unfolding(rules::specs::Items::size))]
 pub fn size(w: usize, len: usize) -> usize
     requires { (4 ≤ w) × (w ≤ 8) × (len < 2 ^ 62) }
     ensures { (result ≡ size w len) × (8 + len ≤ result) × (result < 8 + len + w) }
@@ -165,48 +88,30 @@ pub fn size(w: usize, len: usize) -> usize
 }
 
 // Programs bytes at a place: each bit becomes the AND of old and new.
-fn and_bytes(img: &mut [u8], at: usize, b: &[u8])
-    requires { at + length b.now ≤ length img.old }
-    ensures { img.new ≡ program img.old at b.now }
+#[tactic(auto, using(crate::proofs::Laws::program_step, crate::proofs::Laws::program_end))]
+fn and_bytes(img: &mut [u8], at: usize, bytes: &[u8])
+    requires { at + length bytes.now ≤ length img.old }
+    ensures { img.new ≡ program img.old at bytes.now }
 {
-    let mut i: usize = 0;
-    while i < b.len() {
-        img[at + i] = img[at + i] & b[i];
-        i += 1;
-    }
-}
-
-// Makes n bytes from a place on 0xFF.
-fn blank_bytes(img: &mut [u8], at: usize, n: usize)
-    requires { at + n ≤ length img.old }
-    ensures { img.new ≡ splice img.old at (replicate n 255) }
-{
-    let mut i: usize = 0;
-    while i < n {
-        img[at + i] = 255;
-        i += 1;
+    for (i, byte) in bytes.iter().enumerate() {
+        img[at + i] &= *byte;
     }
 }
 
 // So much power never runs out.
-pub const ENDLESS: usize = 18446744073709551615;
+pub const ENDLESS: usize = usize::MAX;
 
-// How many of n units the power allows.
-fn allowed(p: usize, n: usize) -> usize
-    ensures { result ≡ min p n }
+// What is left of the power after these units.
+#[tactic(auto, unfolding(rules::specs::Power::spend))]
+fn spend(power: usize, units: usize) -> usize
+    requires { units ≤ power }
+    ensures { result ≡ spend power units }
 {
-    if p < n { p } else { n }
-}
-
-// What is left of the power after n units.
-fn spend(p: usize, n: usize) -> usize
-    requires { n ≤ p }
-    ensures { result ≡ spend p n }
-{
-    if p < ENDLESS {
-        return p - n;
+    if power < ENDLESS {
+        power - units
+    } else {
+        power
     }
-    p
 }
 
 // Programs bytes at a place while the power lasts, a unit for each. All of the map's programming is done here.
@@ -214,21 +119,20 @@ pub fn program(img: &mut [u8], at: usize, b: &[u8], power: &mut usize)
     requires { at + length b.now ≤ length img.old }
     ensures { Wrote img.old power.old img.new power.new at b.now }
 {
-    let p = *power;
-    let n = allowed(p, b.len());
-    and_bytes(img, at, &b[..n]);
-    *power = spend(p, n);
+    let allowed = b.len().min(*power);
+    and_bytes(img, at, &b[..allowed]);
+    *power = spend(*power, allowed);
 }
 
 // Erases n bytes from a place on, if there is a unit of power: they become 0xFF. All of the map's erasing is done here.
+#[tactic(auto, using(crate::proofs::Laws::erased, crate::proofs::Laws::not_begun, crate::proofs::Laws::none_left))]
 pub fn erase(img: &mut [u8], at: usize, n: usize, power: &mut usize)
     requires { at + n ≤ length img.old }
     ensures { (img.new ≡ pick (lasts power.old 1) (splice img.old at (replicate n 255)) img.old)
         × (power.new ≡ spend power.old 1) }
 {
-    let p = *power;
-    if 0 < p {
-        blank_bytes(img, at, n);
-        *power = spend(p, 1);
+    if 0 < *power {
+        img[at..at + n].fill(255);
+        *power = spend(*power, 1);
     }
 }

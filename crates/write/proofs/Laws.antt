@@ -1,185 +1,253 @@
--- The bytes of an item in words, and pieces of what is programmed.
-use mathlib.Core.Path.{◌≡◌, refl, sym, ap, ◌∙◌}
-use Prim.Native.Nat.{ℕ, zero, suc, ◌+◌, ◌-◌, ◌%◌, ◌≤◌, ◌<◌}
+-- Whole words, the bytes of an item, and parts of the image.
+use mathlib.Core.Path.{◌≡◌, refl, sym, ap, subst, ◌∙◌}
+use Prim.Native.Nat.{ℕ, ◌+◌, ◌-◌, ◌*◌, ◌/◌, ◌%◌, ◌≤◌, ◌<◌, min}
+use mathlib.Core.Logic.{◌⊎◌, ⊎_elim}
 use native.Mathlib.Omega.{arith}
-use native.Mathlib.Numerals.{add-one}
-use native.Mathlib.Nat.{add-mod, zero-mod, mod_self}
+use native.Mathlib.Nat.{add-mod, zero-mod, mod_self, div-add-mod', mod-lt, mul-mod_left}
 use mathlib.Core.Bool.{Bool, true, false}
-use lib.Dec.{ltb}
-use borrow.Author.Tests.{ltb-true, ltb-false}
-use mathlib.Core.Logic.{◌⊎◌, ⊎_elim, inl, inr}
+use lib.Dec.{leb}
+use borrow.Author.Tests.{leb-true, leb-false}
+use borrow.Rule.Slice.PartMut.{put_mid}
 use mathlib.Core.List.{List, [], ◌∷◌, ◌++◌}
-use lib.ListN.{length, get_or, set, take, drop, replicate, length-append, length-replicate, length-drop, length-take}
-use lib.Seq.{drop-cons, drop-drop, take-append-le, drop-append-le, length-take-le, take-suc, take-take, set_at}
-use lib.Seq.{append_snoc, get_or-drop}
-use Rattle.laws.specs.Splice.{take-over, window_replicate, drop-take}
-use Rattle.rules.specs.Bytes.{to_le, round_up, zeros}
+use lib.ListN.{length, take, drop, replicate, length-append, length-replicate, length-drop, length-take}
+use lib.ListN.{take-append-drop, drop_of_length-le}
+use lib.Seq.{drop-drop, take-append-le, drop-append-le, length-take-le, take-take, take_at, drop_at, take_all}
+use Rattle.std.specs.Int.{w32, count_zeros, to_le_bytes}
+use Rattle.std.proofs.lemmas.List.{append_assoc}
+use Rattle.std.proofs.Common.{append-nil}
+use Rattle.laws.specs.Splice.{take-over, window_replicate, drop-replicate, drop-take}
+use Rattle.rules.specs.Bytes.{Bytes, pick, to_le, of_le, round_up, zeros, splice, program, and_all}
 use Rattle.rules.specs.Items.{pad, size, check_of, encode, encode_data}
-use Rattle.laws.specs.Words.{le_round_up, round_up_lt, round_up_words, word_in}
-use Rattle.laws.specs.Power.{Wrote, wrote_append, wrote_more, wrote_all, wrote_window}
-use Rattle.laws.specs.Encoding.{length-pad}
-use Rattle.write.specs.Code.{from, data_bytes, copy_bytes, Programmed}
+use Rattle.rules.specs.Power.{endless, taken}
+use Rattle.laws.specs.Words.{le_round_up, round_up_lt, round_up_words}
+use Rattle.laws.specs.Power.{Wrote, wrote_append, wrote_as}
+use Rattle.laws.specs.ByteLaws.{length-and_all}
+use Rattle.laws.specs.Encoding.{length-pad, of_le_to_le4}
+use Rattle.words.proofs.Laws.{multiple_is, zeros_of}
+use Rattle.write.specs.Code.{data_bytes}
 
--- ---- bytes past the end of a list are 0xFF
+-- ---- whole words
 
-get_or_in : (l : List ℕ) (i : ℕ) → i < length l → get_or l i 0 ≡ get_or l i 255
-get_or_in [] i h = absurd (omega arith)
-get_or_in (x ∷ l) zero h = refl
-get_or_in (x ∷ l) (suc i) h = get_or_in l i (omega arith)
+-- n rounded down to a multiple of w
+pub whole_of : (n w : ℕ) → 0 < w → (n / w * w ≤ n) × (n < n / w * w + w) × (n / w * w % w ≡ 0)
+whole_of n w h =
+    (omega (arith, div-add-mod' n w), omega (arith, div-add-mod' n w, mod-lt n h), mul-mod_left (n / w) w)
 
-get_d_past : (l : List ℕ) (i : ℕ) → length l ≤ i → 255 ≡ get_or l i 255
-get_d_past [] i h = refl
-get_d_past (x ∷ l) zero h = absurd (omega arith)
-get_d_past (x ∷ l) (suc i) h = get_d_past l i (omega arith)
+-- steps of whole words
+on_word : (w i m : ℕ) → i % w ≡ 0 → m % w ≡ 0 → (i + m) % w ≡ 0
+on_word w i m h g = add-mod i m w ∙ rw (h, g) (zero-mod w)
 
--- a byte behind the four of a key
-pub byte_in : (a b c d : ℕ) (v : List ℕ) (i : ℕ) → 4 ≤ i → i - 4 < length v
-    → get_or v (i - 4) 0 ≡ get_or (a ∷ b ∷ c ∷ d ∷ v) i 255
-byte_in a b c d v i h g =
-    let q : i ≡ suc (suc (suc (suc (i - 4)))) = omega arith in
-    get_or_in v (i - 4) g ∙ sym (ap (λ (x : ℕ). get_or (a ∷ b ∷ c ∷ d ∷ v) x 255) q)
+-- a whole number of words is rounded up by itself
+round_up_more : (w a x : ℕ) → 0 < w → a % w ≡ 0 → round_up w (a + x) ≡ a + round_up w x
+round_up_more w a x h g =
+    sym (multiple_is w (a + x) (a + round_up w x) h (omega (arith, le_round_up w x h))
+    (omega (arith, round_up_lt w x h)) (on_word w a (round_up w x) g (round_up_words w x)))
 
-pub byte_past : (a b c d : ℕ) (v : List ℕ) (i : ℕ) → 4 ≤ i → length v ≤ i - 4 → 255 ≡ get_or (a ∷ b ∷ c ∷ d ∷ v) i 255
-byte_past a b c d v i h g =
-    let q : i ≡ suc (suc (suc (suc (i - 4)))) = omega arith in
-    get_d_past v (i - 4) g ∙ sym (ap (λ (x : ℕ). get_or (a ∷ b ∷ c ∷ d ∷ v) x 255) q)
+round_up-none : (w : ℕ) → 0 < w → round_up w 0 ≡ 0
+round_up-none w h = sym (multiple_is w 0 0 h (omega arith) (omega arith) (zero-mod w))
 
-pub eight : (l : List ℕ) (i x₀ x₁ x₂ x₃ x₄ x₅ x₆ x₇ : ℕ) → x₀ ≡ get_or l i 255 → x₁ ≡ get_or l (i + 1) 255
-    → x₂ ≡ get_or l (i + 2) 255 → x₃ ≡ get_or l (i + 3) 255
-    → x₄ ≡ get_or l (i + 4) 255 → x₅ ≡ get_or l (i + 5) 255 → x₆ ≡ get_or l (i + 6) 255 → x₇ ≡ get_or l (i + 7) 255
-    → x₀ ∷ x₁ ∷ x₂ ∷ x₃ ∷ x₄ ∷ x₅ ∷ x₆ ∷ x₇ ∷ [] ≡ from l i 8
-eight l i x₀ x₁ x₂ x₃ x₄ x₅ x₆ x₇ e₀ e₁ e₂ e₃ e₄ e₅ e₆ e₇ =
-    let q₂ : i + 1 + 1 ≡ i + 2 = omega arith in
-    let q₃ : i + 2 + 1 ≡ i + 3 = omega arith in
-    let q₄ : i + 3 + 1 ≡ i + 4 = omega arith in
-    let q₅ : i + 4 + 1 ≡ i + 5 = omega arith in
-    let q₆ : i + 5 + 1 ≡ i + 6 = omega arith in
-    let q₇ : i + 6 + 1 ≡ i + 7 = omega arith in
-    rw (q₂, q₃, q₄, q₅, q₆, q₇, e₀, e₁, e₂, e₃, e₄, e₅, e₆, e₇)
+round_up_one : (w x : ℕ) → 0 < x → x ≤ w → round_up w x ≡ w
+round_up_one w x h g = sym (multiple_is w x w (omega arith) g (omega arith) (mod_self w))
 
-get_or_pad : (l : List ℕ) (r i : ℕ) → get_or (l ++ replicate r 255) i 255 ≡ get_or l i 255
-get_or_pad [] zero i = refl
-get_or_pad [] (suc r) zero = refl
-get_or_pad [] (suc r) (suc i) = get_or_pad [] r i
-get_or_pad (x ∷ l) r zero = refl
-get_or_pad (x ∷ l) r (suc i) = get_or_pad l r i
+-- a word that is filled
+padded_word : (w : ℕ) (x : List ℕ) → length x ≤ w → w ≤ 8
+    → take w (x ++ replicate (8 - length x) 255) ≡ x ++ replicate (w - length x) 255
+padded_word w x h g =
+    rw (take-over w x (replicate (8 - length x) 255) h)
+    (ap (λ (y : List ℕ). x ++ y) (window_replicate (8 - length x) 0 (w - length x) 255 (omega arith)))
 
-from-pad : (l : List ℕ) (r i n : ℕ) → from (l ++ replicate r 255) i n ≡ from l i n
-from-pad l r i zero = refl
-from-pad l r i (suc n) = rw (get_or_pad l r i, from-pad l r (i + 1) n)
+-- m bytes of bs in whole words, and what is left, less than a word
+module _ (w m : ℕ) (bs : List ℕ) (w₊ : 0 < w) (h8 : w ≤ 8) (on : m % w ≡ 0) (le : m ≤ length bs)
+    (lt : length bs < m + w) where
+  -- nothing is left
+  pub whole_all : length bs ≤ m → take m bs ≡ bs ++ pad w (length bs)
+  unfolding pad
+  whole_all h =
+      let q : length bs ≡ m = omega arith in
+      let r : round_up w m ≡ m = sym (multiple_is w m m w₊ (omega arith) (omega arith) on) in
+      let z : m - m ≡ 0 = omega arith in
+      take_all m bs h ∙ sym (rw (q, r, z) (append-nil bs))
 
-from_is : (l : List ℕ) (i n : ℕ) → i + n ≤ length l → take n (drop i l) ≡ from l i n
-from_is l i zero h = refl
-from_is l i (suc n) h =
-    let g : i < length l = omega arith in
-    rw (drop-cons l i 0 g, get_or_in l i g, ← add-one i, from_is l (i + 1) n (omega arith))
+  pub last_up : m < length bs → round_up w (length bs) ≡ m + w
+  last_up h =
+      sym (multiple_is w (length bs) (m + w) w₊ (omega arith) (omega arith) (on_word w m w on (mod_self w)))
 
-take-from : (l : List ℕ) (i w n : ℕ) → w ≤ n → take w (from l i n) ≡ from l i w
-take-from l i zero n h = refl
-take-from l i (suc w) zero h = absurd (omega arith)
-take-from l i (suc w) (suc n) h = rw (take-from l (i + 1) w n (omega arith))
+  -- the last bytes are a word with padding
+  pub whole_last : m < length bs
+      → take m bs ++ take w (drop m bs ++ replicate (8 - length (drop m bs)) 255) ≡ bs ++ pad w (length bs)
+  unfolding pad
+  whole_last h =
+      let x : List ℕ = drop m bs in
+      let lx : length x ≡ length bs - m = length-drop m bs in
+      let n : length x ≤ w = omega arith in
+      let r : round_up w (length bs) - length bs ≡ w - length x = omega (arith, last_up h) in
+      let word = padded_word w x n h8 in
+      rw (word, r, ← append_assoc (take m bs) x (replicate (w - length x) 255), take-append-drop m bs)
 
--- a word that is built: w bytes of l from i on, with 0xFF behind it
-pub word_of : (l : List ℕ) (r i w : ℕ) → w ≤ 8 → i + w ≤ length (l ++ replicate r 255)
-    → take w (from l i 8) ≡ take w (drop i (l ++ replicate r 255))
-word_of l r i w h g = take-from l i w 8 h ∙ sym (from-pad l r i w) ∙ sym (from_is (l ++ replicate r 255) i w g)
+  -- the two steps: the whole words, and the last one
+  module _ (l front back word : List ℕ) (at : ℕ) (f : front ≡ take m bs) (b : back ≡ drop m bs)
+      (e : word ≡ back ++ replicate (8 - length back) 255) (room : at + round_up w (length bs) ≤ length l) where
+    pub last_fits : 0 < length back → at + length front + length (take w word) ≤ length l
+    last_fits h =
+        let lf : length front ≡ m = rw f (length-take-le m bs le) in
+        let lb : length back ≡ length bs - m = rw b (length-drop m bs) in
+        omega (arith, last_up (omega arith), length-take w word)
+
+    pub wrote_last : (l₁ l₂ : List ℕ) (p p₁ p₂ : ℕ) → 0 < length back → Wrote l p l₁ p₁ at front
+        → Wrote l₁ p₁ l₂ p₂ (at + length front) (take w word) → Wrote l p l₂ p₂ at (bs ++ pad w (length bs))
+    wrote_last l₁ l₂ p p₁ p₂ h x y =
+        let lb : length back ≡ length bs - m = rw b (length-drop m bs) in
+        let fits = last_fits h in
+        let q : front ++ take w word ≡ bs ++ pad w (length bs) = rw (e, b, f) (whole_last (omega arith)) in
+        wrote_as q (wrote_append l l₁ l₂ p p₁ p₂ at (at + length front) front (take w word) x y refl (omega arith))
 
 -- ---- the data of an item
 
-module _ (w k : ℕ) (v : List ℕ) (hw : 4 ≤ w) (h8 : w ≤ 8) where
-  pub length_data : length (data_bytes w k v) ≡ round_up w (4 + length v)
-  unfolding data_bytes
-  length_data =
-      omega (arith, length-append (to_le 4 k ++ v) (pad w (4 + length v)), length-pad w (4 + length v) (omega arith))
+pub length_data : (w k : ℕ) (v : List ℕ) → 4 ≤ w → length (data_bytes w k v) ≡ round_up w (4 + length v)
+unfolding data_bytes
+length_data w k v hw =
+    omega (arith, length-append (to_le 4 k ++ v) (pad w (4 + length v)), length-pad w (4 + length v) (omega arith))
 
-  pub length-on : length (data_bytes w k v) % w ≡ 0
-  length-on = rw length_data (round_up_words w (4 + length v))
+key_bytes : (k : ℕ) → to_le_bytes w32 k ≡ to_le 4 k
+key_bytes k =
+    let a : k / 65536 % 256 ≡ k / 256 / 256 % 256 = omega arith in
+    let b : k / 16777216 % 256 ≡ k / 256 / 256 / 256 % 256 = omega arith in
+    rw (a, b)
 
-  pub length_lt : length (data_bytes w k v) < 4 + length v + w
-  length_lt = rw length_data (round_up_lt w (4 + length v) (omega arith))
+pub key_zeros : (k : ℕ) → k < 4294967296 → count_zeros w32 k ≡ zeros (to_le 4 k)
+key_zeros k h =
+    let q : k ≡ of_le (to_le 4 k) = sym (of_le_to_le4 k h) in
+    let b : Bytes (to_le 4 k) = (omega arith, (omega arith, (omega arith, (omega arith, tt)))) in
+    ap (λ (n : ℕ). count_zeros w32 n) q ∙ zeros_of (to_le 4 k) b 32 refl refl
 
-  pub word_is : (i : ℕ) → i + w ≤ length (data_bytes w k v)
-      → take w (from (to_le 4 k ++ v) i 8) ≡ take w (drop i (data_bytes w k v))
-  unfolding pad data_bytes
-  word_is i h = word_of (to_le 4 k ++ v) (round_up w (4 + length v) - (4 + length v)) i w h8 h
+-- the word that holds the key and what fits behind it, as it is built
+pub key_and : (k : ℕ) (bytes word front copied : List ℕ) → bytes ≡ to_le_bytes w32 k
+    → word ≡ bytes ++ replicate (8 - length bytes) 255 → copied ≡ front
+    → put_mid 4 (4 + length front - 4) word copied ≡ to_le 4 k ++ (front ++ replicate (4 - length front) 255)
+key_and k bytes word front copied e f c =
+    let w : word ≡ to_le 4 k ++ replicate 4 255 = f ∙ rw (e ∙ key_bytes k) in
+    let q : 4 + length front - 4 ≡ length front = omega arith in
+    rw (c, w, q, drop-replicate (length front) 4 255)
 
-  -- words that are taken from the value
-  pub value_is : (i m : ℕ) → 4 ≤ i → i + m ≤ 4 + length v → take m (drop (i - 4) v) ≡ take m (drop i (data_bytes w k v))
-  unfolding data_bytes
-  value_is i m h g =
-      let j = i - 4 in
-      let q : i ≡ suc (suc (suc (suc (i - 4)))) = omega arith in
-      let l : m ≤ length (drop j v) = rw length-drop (omega arith) in
-      sym (ap (λ (x : ℕ). take m (drop x (data_bytes w k v))) q
-      ∙ rw (drop-append-le j v (pad w (4 + length v)) (omega arith))
-      (take-append-le m (drop j v) (pad w (4 + length v)) l))
+-- that word and the rest of the value are the data and its padding
+module _ (key v : List ℕ) (w n : ℕ) (hw : 4 ≤ w) where
+  -- the value goes on behind that word
+  long_data : w - 4 ≤ length v → n ≡ w - 4
+      → (key ++ (take n v ++ replicate (w - 4 - length (take n v)) 255))
+      ++ (drop n v ++ replicate (round_up w (length (drop n v)) - length (drop n v)) 255)
+      ≡ (key ++ v) ++ replicate (round_up w (4 + length v) - (4 + length v)) 255
+  long_data h e =
+      let lt : length (take n v) ≡ n = length-take-le n v (omega arith) in
+      let ld : length (drop n v) ≡ length v - n = length-drop n v in
+      let z : w - 4 - n ≡ 0 = omega arith in
+      let q : 4 + length v ≡ w + length (drop n v) = omega arith in
+      let r = round_up_more w w (length (drop n v)) (omega arith) (mod_self w) in
+      let p : round_up w (4 + length v) - (4 + length v) ≡ round_up w (length (drop n v)) - length (drop n v) =
+      rw (q, r) (omega arith) in
+      let P : List ℕ = replicate (round_up w (length (drop n v)) - length (drop n v)) 255 in
+      rw (
+        lt,
+        z,
+        append-nil (take n v),
+        p,
+        ← append_assoc (key ++ take n v) (drop n v) P,
+        append_assoc key (take n v) (drop n v),
+        take-append-drop n v,
+      )
 
--- steps of whole words
-pub on_word : (w i m : ℕ) → i % w ≡ 0 → m % w ≡ 0 → (i + m) % w ≡ 0
-on_word w i m h g = add-mod i m w ∙ rw (h, g) (zero-mod w)
+  -- the value ends in it
+  short_data : length v < w - 4 → n ≡ length v
+      → (key ++ (take n v ++ replicate (w - 4 - length (take n v)) 255))
+      ++ (drop n v ++ replicate (round_up w (length (drop n v)) - length (drop n v)) 255)
+      ≡ (key ++ v) ++ replicate (round_up w (4 + length v) - (4 + length v)) 255
+  short_data h e =
+      let t : take n v ≡ v = take_all n v (omega arith) in
+      let d : drop n v ≡ [] = drop_of_length-le v (omega arith) in
+      let r = round_up_one w (4 + length v) (omega arith) (omega arith) in
+      let q : w - 4 - length v ≡ w - (4 + length v) = omega arith in
+      let o : round_up w 0 - 0 ≡ 0 = omega (arith, round_up-none w (omega arith)) in
+      rw (t, d, r, q, o, append-nil (key ++ (v ++ replicate (w - (4 + length v)) 255)))
+      (sym (append_assoc key v (replicate (w - (4 + length v)) 255)))
 
--- ---- the two ways of `write_some`
-
-module _ (img img' v : List ℕ) (p p' a w k i : ℕ) (hw : 4 ≤ w) (h8 : w ≤ 8) (hi : i % w ≡ 0) (hin : i < 4 + length v)
-    (room : a + length (data_bytes w k v) ≤ length img) where
-  -- a word stands before the end of the data
-  pub word_fits : i + w ≤ length (data_bytes w k v)
-  word_fits =
-      let lt : i < length (data_bytes w k v) =
-      rw (length_data w k v hw h8) (omega (arith, le_round_up w (4 + length v) (omega arith))) in
-      word_in w i (length (data_bytes w k v)) hi (length-on w k v hw h8) lt
-
-  pub data_fits : 4 + length v ≤ length (data_bytes w k v)
-  data_fits = rw (length_data w k v hw h8) (le_round_up w (4 + length v) (omega arith))
-
-  pub value_fits : (m : ℕ) → m ≤ 4 + length v - i
-      → a + i + length (take (i - 4 + m - (i - 4)) (drop (i - 4) v)) ≤ length img
-  value_fits m hm = omega (arith, data_fits, length-take (i - 4 + m - (i - 4)) (drop (i - 4) v))
-
-  pub by_value : (m : ℕ) → 4 ≤ i → m ≤ 4 + length v - i → 0 < m → m % w ≡ 0
-      → Wrote img p img' p' (a + i) (take (i - 4 + m - (i - 4)) (drop (i - 4) v))
-      → Programmed img p img' p' (data_bytes w k v) a w i (i + m)
-  by_value m h4 hm m₊ mw e =
-      let df = data_fits in
-      let q : i - 4 + m - (i - 4) ≡ m = omega arith in
-      let z : i + m - i ≡ m = omega arith in
-      let e' : Wrote img p img' p' (a + i) (take m (drop (i - 4) v)) = rw q at e in
-      record {
-        on = omega arith;
-        in_it = omega arith;
-        word = on_word w i m hi mw;
-        wrote = rw (z, ← value_is w k v hw h8 i m h4 (omega arith)) e';
-      }
-
-  pub by_word : Wrote img p img' p' (a + i) (take w (from (to_le 4 k ++ v) i 8))
-      → Programmed img p img' p' (data_bytes w k v) a w i (i + w)
-  by_word e =
-      let wf = word_fits in
-      let z : i + w - i ≡ w = omega arith in
-      record {
-        on = omega arith;
-        in_it = wf;
-        word = on_word w i w hi (mod_self w);
-        wrote = rw (z, ← word_is w k v hw h8 i wf) e;
-      }
-
--- ---- the whole of the data is written where all of it is programmed
-pub all_in : (P : List ℕ) (w i n : ℕ) → i % w ≡ 0 → length P % w ≡ 0 → length P < n + w → n ≤ i → i ≤ length P
-    → length P ≤ i
-all_in P w i n hi hP lt hn le = go (ltb i (length P)) refl
+pub data_is : (w k n : ℕ) (v : List ℕ) → 4 ≤ w → n ≡ min (length v) (w - 4)
+    → (to_le 4 k ++ (take n v ++ replicate (w - 4 - length (take n v)) 255)) ++ (drop n v ++ pad w (length (drop n v)))
+    ≡ data_bytes w k v
+unfolding data_bytes pad
+data_is w k n v hw e = go (leb (w - 4) (length v)) refl
   where
-    go : (b : Bool) → ltb i (length P) ≡ b → length P ≤ i
-    go true e = let s = word_in w i (length P) hi hP (ltb-true i (length P) e) in absurd (omega arith)
-    go false e = ltb-false i (length P) e
+    go : (b : Bool) → leb (w - 4) (length v) ≡ b
+        → (to_le 4 k ++ (take n v ++ replicate (w - 4 - length (take n v)) 255))
+        ++ (drop n v ++ replicate (round_up w (length (drop n v)) - length (drop n v)) 255)
+        ≡ (to_le 4 k ++ v) ++ replicate (round_up w (4 + length v) - (4 + length v)) 255
+    go true f = let h = leb-true (w - 4) (length v) f in long_data (to_le 4 k) v w n hw h (omega arith)
+    go false f = let h = leb-false (w - 4) (length v) f in short_data (to_le 4 k) v w n hw h (omega arith)
+
+-- the first word and the rest of the value are programmed
+module _ (w k n : ℕ) (v word front rest : List ℕ) (hw : 4 ≤ w) (h8 : w ≤ 8) (hn : n ≡ min (length v) (w - 4))
+    (e : word ≡ to_le 4 k ++ (front ++ replicate (4 - length front) 255)) (f : front ≡ take n v) (r : rest ≡ drop n v)
+  where
+    short : length (take n v) ≡ n
+    short = length-take-le n v (omega arith)
+
+    word_is : take w word ≡ to_le 4 k ++ (take n v ++ replicate (w - 4 - length (take n v)) 255)
+    word_is =
+        let s = short in
+        let x : List ℕ = take n v in
+        let key : length (to_le 4 k) ≤ w = omega arith in
+        let fits : length x ≤ w - 4 = omega arith in
+        rw (
+          e,
+          f,
+          take-over w (to_le 4 k) (x ++ replicate (4 - length x) 255) key,
+          take-over (w - 4) x (replicate (4 - length x) 255) fits,
+          window_replicate (4 - length x) 0 (w - 4 - length x) 255 (omega arith),
+        )
+
+    length_word : length (take w word) ≡ w
+    length_word =
+        let s = short in
+        let lr = length-replicate {A = ℕ} (w - 4 - length (take n v)) 255 in
+        let la = length-append (take n v) (replicate (w - 4 - length (take n v)) 255) in
+        rw word_is (omega arith)
+
+    data_parts : take w word ++ (rest ++ pad w (length rest)) ≡ data_bytes w k v
+    data_parts = rw (word_is, r) (data_is w k n v hw hn)
+
+    data_long : w + round_up w (length rest) ≡ length (data_bytes w k v)
+    data_long =
+        let b = length_word in
+        let la = length-append (take w word) (rest ++ pad w (length rest)) in
+        let lp = length-append rest (pad w (length rest)) in
+        let ll = length-pad w (length rest) (omega arith) in
+        let all = ap length data_parts in
+        omega arith
+
+    module _ (l : List ℕ) (at : ℕ) (room : at + length (data_bytes w k v) ≤ length l) where
+      pub word_fits : at + length (take w word) ≤ length l
+      word_fits = omega (arith, length_word, data_long)
+
+      pub rest_fits : at + w + round_up w (length rest) ≤ length l
+      rest_fits = omega (arith, data_long)
+
+      pub data_wrote : (l₁ l₂ : List ℕ) (p p₁ p₂ : ℕ) → Wrote l p l₁ p₁ at (take w word)
+          → Wrote l₁ p₁ l₂ p₂ (at + w) (rest ++ pad w (length rest)) → Wrote l p l₂ p₂ at (data_bytes w k v)
+      data_wrote l₁ l₂ p p₁ p₂ x y =
+          let b = length_word in
+          let d = data_long in
+          let lp = length-append rest (pad w (length rest)) in
+          let ll = length-pad w (length rest) (omega arith) in
+          wrote_as data_parts
+          (wrote_append l l₁ l₂ p p₁ p₂ at (at + w) (take w word) (rest ++ pad w (length rest)) x y (omega arith)
+          (omega arith))
 
 -- ---- an item is its header and its data
 
 abbrev pub head_of : ℕ → ℕ → List ℕ
 head_of L C = to_le 2 L ++ (to_le 2 (65535 - L) ++ to_le 4 C)
 
-pub size_data : (w k : ℕ) (v : List ℕ) → 4 ≤ w → w ≤ 8 → size w (4 + length v) ≡ 8 + length (data_bytes w k v)
+pub size_data : (w k : ℕ) (v : List ℕ) → 4 ≤ w → size w (4 + length v) ≡ 8 + length (data_bytes w k v)
 unfolding size
-size_data w k v hw h8 = rw (length_data w k v hw h8)
+size_data w k v hw = rw (length_data w k v hw)
 
 zeros-more : (xs ys : List ℕ) → zeros (xs ++ ys) ≡ zeros xs + zeros ys
 zeros-more [] ys = omega arith
@@ -197,163 +265,160 @@ item_is w k x y v hx hy =
 pub item_written : (l l₁ l₂ : List ℕ) (p p₁ p₂ at w k x y : ℕ) (H v : List ℕ)
     → Wrote l p l₁ p₁ at H → Wrote l₁ p₁ l₂ p₂ (at + 8) (data_bytes w k v)
     → H ≡ head_of (4 + length v) (x + y + 1) → x ≡ zeros (to_le 4 k) → y ≡ zeros v
-    → 4 ≤ w → w ≤ 8 → at + size w (4 + length v) ≤ length l
+    → 4 ≤ w → at + size w (4 + length v) ≤ length l
     → Wrote l p l₂ p₂ at (encode w k v)
-item_written l l₁ l₂ p p₁ p₂ at w k x y H v e₁ e₂ hH hx hy hw h8 room =
-    let sd = size_data w k v hw h8 in
+item_written l l₁ l₂ p p₁ p₂ at w k x y H v e₁ e₂ hH hx hy hw room =
+    let sd = size_data w k v hw in
     let l_h : length H ≡ 8 = ap length hH in
     let r : H ++ data_bytes w k v ≡ encode w k v =
     ap (λ (z : List ℕ). z ++ data_bytes w k v) hH ∙ item_is w k x y v hx hy in
     rw (← r) (wrote_append l l₁ l₂ p p₁ p₂ at (at + 8) H (data_bytes w k v) e₁ e₂ (omega arith) (omega arith))
 
--- ---- copies
+-- ---- parts of the image
 
--- one more byte of N that are built
-pub word_turn : (N : ℕ) (img : List ℕ) (s j : ℕ) → j < N → s + j < length img
-    → set (take j (drop s img) ++ replicate (N - j) 255) j (get_or img (s + j) 0)
-    ≡ take (j + 1) (drop s img) ++ replicate (N - (j + 1)) 255
-word_turn N img s j h g =
-    let q : N - j ≡ suc (N - (j + 1)) = omega arith in
-    let ld = length-drop s img in
-    let lj : length (take j (drop s img)) ≡ j = length-take-le j (drop s img) (omega arith) in
+taken_le : (p : ℕ) (bs : List ℕ) → length (taken p bs) ≤ length bs
+unfolding taken
+taken_le p bs = go (leb endless p)
+  where
+    go : (b : Bool) → length (pick b bs (take p bs)) ≤ length bs
+    go true = omega arith
+    go false = rw (length-take p bs) (omega arith)
+
+-- the bytes lie in the first part, or the second begins with them
+program-front : (xs ys : List ℕ) (at : ℕ) (bs : List ℕ) → at + length bs ≤ length xs
+    → program (xs ++ ys) at bs ≡ program xs at bs ++ ys
+unfolding program splice
+program-front xs ys at bs h =
+    let n : ℕ = length bs in
+    let o : List ℕ = take n (drop at xs) in
+    let lo : length o ≡ n = length-take-le n (drop at xs) (rw length-drop (omega arith)) in
+    let k : n ≤ length (drop at xs) = rw length-drop (omega arith) in
+    let la = length-and_all o bs lo in
+    let g : at + length (and_all o bs) ≤ length xs = omega arith in
+    let f : at ≤ length xs = omega arith in
     rw (
-      q,
-      ← get_or-drop s img j 0,
-      set_at (take j (drop s img)) 255 (replicate (N - (j + 1)) 255) (get_or (drop s img) j 0) j lj,
-      add-one,
-      take-suc (drop s img) j 0 (omega arith),
-    ) (sym (append_snoc (take j (drop s img)) (get_or (drop s img) j 0) (replicate (N - suc j) 255)))
+      drop-append-le at xs ys f,
+      take-append-le n (drop at xs) ys k,
+      take-append-le at xs ys f,
+      drop-append-le (at + length (and_all o bs)) xs ys g,
+    )
+    (ap (λ (z : List ℕ). take at xs ++ z) (sym (append_assoc (and_all o bs) (drop (at + length (and_all o bs)) xs) ys))
+    ∙ sym (append_assoc (take at xs) (and_all o bs ++ drop (at + length (and_all o bs)) xs) ys))
 
--- the first w bytes of it
-pub word_taken : (x : List ℕ) (m w : ℕ) → length x ≡ m → m ≤ w → w ≤ 8
-    → take w (x ++ replicate (8 - m) 255) ≡ x ++ replicate (w - m) 255
-word_taken x m w l h g =
-    rw (take-over w x (replicate (8 - m) 255) (omega arith), l)
-    (ap (λ (y : List ℕ). x ++ y) (window_replicate (8 - m) 0 (w - m) 255 (omega arith)))
+program-back : (xs ys bs : List ℕ) (at : ℕ) → at ≡ length xs → program (xs ++ ys) at bs ≡ xs ++ program ys 0 bs
+unfolding program splice
+program-back xs ys bs at e =
+    let n : ℕ = length bs in
+    let A : List ℕ = and_all (take n ys) bs in
+    let z : 0 + length A ≡ length A = omega arith in
+    rw (
+      e,
+      drop_at xs ys (length xs) refl,
+      take_at xs ys (length xs) refl,
+      ← drop-drop (length A) (length xs) (xs ++ ys),
+      drop_at xs ys (length xs) refl,
+      z,
+    )
 
--- what the last word of a copy holds: the last bytes of the source and 0xFF
-module _ (img : List ℕ) (s n w i : ℕ) (h8 : w ≤ 8) (hi : i < n) (hs : s + n ≤ length img) where
-  pub next_short : n - i < w
-      → take (n - i) (drop (s + i) img) ++ replicate (w - (n - i)) 255 ≡ take w (from (take n (drop s img)) i 8)
-  next_short h =
-      let X : List ℕ = take n (drop s img) in
-      let l : length X ≡ n = length-take-le n (drop s img) (rw length-drop (omega arith)) in
-      let lr = length-replicate {A = ℕ} w 255 in
-      let la = length-append X (replicate w 255) in
-      let ld : length (drop i X) ≡ n - i = rw length-drop (omega arith) in
-      let part : drop i X ≡ take (n - i) (drop (s + i) img) = drop-take i n (drop s img) ∙ rw (drop-drop i s img) in
-      sym (word_of X w i w h8 (omega arith)
-      ∙ rw (
-        drop-append-le i X (replicate w 255) (omega arith),
-        take-over w (drop i X) (replicate w 255) (omega arith),
-        ld,
-        part,
-      ) (ap (λ (y : List ℕ). take (n - i) (drop (s + i) img) ++ y)
-      (window_replicate w 0 (w - (n - i)) 255 (omega arith))))
+pub wrote_front : (xs xs' ys bs : List ℕ) (p p' at : ℕ) → at + length bs ≤ length xs → Wrote xs p xs' p' at bs
+    → Wrote (xs ++ ys) p (xs' ++ ys) p' at bs
+wrote_front xs xs' ys bs p p' at h w =
+    let t = taken_le p bs in
+    record {
+      is = ap (λ (z : List ℕ). z ++ ys) w.is ∙ sym (program-front xs ys at (taken p bs) (omega arith));
+      left = w.left;
+    }
 
--- ---- a copy of bytes, block by block
-
-module _ (img₀ : List ℕ) (s m t : ℕ) (hs : s + m ≤ length img₀) (ht : t + m ≤ length img₀) (img img' : List ℕ)
-    (p p' i k : ℕ) (hk : i + k ≤ m) (li : length img ≡ length img₀) (same : take m (drop s img) ≡ take m (drop s img₀))
-    (e : Wrote img p img' p' (t + i) (take k (drop (s + i) img))) where
-  whole_is : length (take m (drop s img₀)) ≡ m
-  whole_is = length-take-le m (drop s img₀) (rw length-drop (omega arith))
-
-  block_is : take k (drop (s + i) img) ≡ take k (drop i (take m (drop s img₀)))
-  block_is =
-      sym (ap (λ (x : List ℕ). take k (drop i x)) (sym same)
-      ∙ rw (drop-take i m (drop s img), drop-drop i s img) (take-take k (m - i) (drop (s + i) img) (omega arith)))
-
-  pub block_left : (p₀ : ℕ) → Wrote img₀ p₀ img p t (take i (take m (drop s img₀)))
-      → Wrote img₀ p₀ img' p' t (take (i + k) (take m (drop s img₀)))
-  block_left p₀ w =
-      let l = whole_is in
-      let z : i + k - i ≡ k = omega arith in
-      wrote_more img₀ img img' (take m (drop s img₀)) p₀ p p' t i (i + k) w (rw (z, ← block_is) e) (omega arith)
-      (omega arith) (omega arith)
-
-  pub block_source : ((s + m ≤ t) ⊎ (t + m ≤ s)) → take m (drop s img') ≡ take m (drop s img₀)
-  block_source d =
-      let lx : length (take k (drop (s + i) img)) ≤ k = rw (length-take k (drop (s + i) img)) (omega arith) in
-      wrote_window img img' (take k (drop (s + i) img)) p p' (t + i) e (omega arith) s m
-      (⊎_elim (λ x. inl (omega arith)) (λ x. inr (omega arith)) d) ∙ same
+pub wrote_back : (xs ys ys' bs : List ℕ) (p p' at : ℕ) → at ≡ length xs → Wrote ys p ys' p' 0 bs
+    → Wrote (xs ++ ys) p (xs ++ ys') p' at bs
+wrote_back xs ys ys' bs p p' at e w = record {
+  is = ap (λ (z : List ℕ). xs ++ z) w.is ∙ sym (program-back xs ys (taken p bs) at e);
+  left = w.left;
+}
 
 -- ---- a copy of an item
 
-pub item_long : (w len : ℕ) → 4 ≤ w → 8 + len ≤ size w len
-unfolding size
-item_long w len hw = omega (arith, le_round_up w len (omega arith))
-
-module _ (img₀ : List ℕ) (s len t w : ℕ) (hw : 4 ≤ w) (h8 : w ≤ 8) (h8w : 8 % w ≡ 0)
-    (hs : s + 8 + len ≤ length img₀) where
-  pub length_copy : length (copy_bytes w img₀ s len) ≡ size w len
-  unfolding copy_bytes size
-  length_copy =
-      let l : length (take (8 + len) (drop s img₀)) ≡ 8 + len =
-      length-take-le (8 + len) (drop s img₀) (rw length-drop (omega arith)) in
-      omega (arith, length-append (take (8 + len) (drop s img₀)) (pad w len), length-pad w len (omega arith))
-
-  pub copy_on : length (copy_bytes w img₀ s len) % w ≡ 0
+-- its padding is that of its data
+module _ (w len : ℕ) (hw : 4 ≤ w) (h8 : 8 % w ≡ 0) where
+  size_is : size w len ≡ round_up w (8 + len)
   unfolding size
-  copy_on = rw length_copy (on_word w 8 (round_up w len) h8w (round_up_words w len))
+  size_is = sym (round_up_more w 8 len (omega arith) h8)
 
-  pub copy_lt : length (copy_bytes w img₀ s len) < 8 + len + w
-  unfolding size
-  copy_lt = rw length_copy (omega (arith, round_up_lt w len (omega arith)))
+  pad_is : pad w (8 + len) ≡ pad w len
+  unfolding pad
+  pad_is =
+      let r = round_up_more w 8 len (omega arith) h8 in
+      let q : round_up w (8 + len) - (8 + len) ≡ round_up w len - len = omega arith in
+      rw q
 
-  -- there is a whole word at i
-  pub copy_in : (i : ℕ) → i % w ≡ 0 → i < 8 + len → i + w ≤ length (copy_bytes w img₀ s len)
-  unfolding size
-  copy_in i hi lt =
-      word_in w i (length (copy_bytes w img₀ s len)) hi copy_on
-      (rw length_copy (omega (arith, le_round_up w len (omega arith))))
+-- the source as it is seen in the part before the target
+source_before : (img front : List ℕ) (s n t : ℕ) → front ≡ take t img → s + n ≤ t
+    → take (s + n - s) (drop s front) ≡ take n (drop s img)
+source_before img front s n t e h =
+    let q : s + n - s ≡ n = omega arith in
+    rw (e, q, drop-take s t img, take-take n (t - s) (drop s img) (omega arith))
 
-  -- the whole words up to m are programmed
-  module _ (img : List ℕ) (p₀ p m : ℕ) (hm : m % w ≡ 0) (le : m ≤ 8 + len) (lt : 8 + len < m + w)
-      (ht : t + size w len ≤ length img₀) (d : (s + 8 + len ≤ t) ⊎ (t + size w len ≤ s))
-      (e : Wrote img₀ p₀ img p t (take m (drop s img₀))) where
-    front : take m (drop s img₀) ≡ take m (copy_bytes w img₀ s len)
-    unfolding copy_bytes
-    front =
-        let l : length (take (8 + len) (drop s img₀)) ≡ 8 + len =
-        length-take-le (8 + len) (drop s img₀) (rw length-drop (omega arith)) in
-        sym (take-append-le m (take (8 + len) (drop s img₀)) (pad w len) (omega arith)
-        ∙ take-take m (8 + len) (drop s img₀) le)
+module _ (img front back : List ℕ) (s len t w : ℕ) (hw : 4 ≤ w) (h8 : 8 % w ≡ 0) (hs : s + 8 + len ≤ length img)
+    (ht : t + size w len ≤ length img) (apart : (s + 8 + len ≤ t) ⊎ (t + size w len ≤ s)) (parts : img ≡ front ++ back)
+  where
+    source_long : length (take (8 + len) (drop s img)) ≡ 8 + len
+    source_long = length-take-le (8 + len) (drop s img) (rw length-drop (omega arith))
 
-    fronted : Wrote img₀ p₀ img p t (take m (copy_bytes w img₀ s len))
-    fronted = rw (← front) e
+    -- bytes that are the source, with the padding that their length asks, are the copy
+    copy_is : (bs : List ℕ) → bs ≡ take (8 + len) (drop s img)
+        → bs ++ pad w (length bs) ≡ take (8 + len) (drop s img) ++ pad w len
+    copy_is bs e = rw (e, source_long, pad_is w len hw h8)
 
-    -- no byte is left
-    pub copy_done : 8 + len ≤ m → Wrote img₀ p₀ img p t (copy_bytes w img₀ s len)
-    copy_done h =
-        let lc = length_copy in
-        let lo = item_long w len hw in
-        wrote_all img₀ img (copy_bytes w img₀ s len) p₀ p t m fronted
-        (all_in (copy_bytes w img₀ s len) w m (8 + len) hm copy_on copy_lt h (omega arith))
+    copy_long : length (take (8 + len) (drop s img) ++ pad w len) ≡ size w len
+    copy_long =
+        let x : List ℕ = take (8 + len) (drop s img) in
+        let lx = source_long in
+        let lp = length-pad w (8 + len) (omega arith) in
+        let la = length-append x (pad w (8 + len)) in
+        rw (← pad_is w len hw h8) (omega (arith, size_is w len hw h8))
 
-    kept : take (8 + len) (drop s img) ≡ take (8 + len) (drop s img₀)
-    kept =
-        let lx : length (take m (drop s img₀)) ≤ m = rw (length-take m (drop s img₀)) (omega arith) in
-        let lo = item_long w len hw in
-        wrote_window img₀ img (take m (drop s img₀)) p₀ p t e (omega arith) s (8 + len)
-        (⊎_elim (λ x. inl (omega arith)) (λ x. inr (omega arith)) d)
+    -- a copy behind its source
+    module _ (lt : s < t) (f : front ≡ take t img) (at : length front ≡ t) where
+      forth : s + 8 + len ≤ t
+      forth = let z = size_is w len hw h8 in ⊎_elim (λ x. x) (λ x. absurd (omega arith)) apart
 
-    -- the last bytes are a word with padding
-    pub copy_last : length img ≡ length img₀ → m < 8 + len → (img' : List ℕ) (p' : ℕ)
-        → Wrote img p img' p' (t + m) (take (8 + len - m) (drop (s + m) img) ++ replicate (w - (8 + len - m)) 255)
-        → Wrote img₀ p₀ img' p' t (copy_bytes w img₀ s len)
-    unfolding copy_bytes pad
-    copy_last li h img' p' e' =
-        let lc = length_copy in
-        let ci = copy_in m hm h in
-        let z : m + w - m ≡ w = omega arith in
-        let e'' : Wrote img p img' p' (t + m) (take w (from (take (8 + len) (drop s img)) m 8)) =
-        rw (next_short img s (8 + len) w m h8 h (omega arith) (omega arith)) at e' in
-        let word : take w (from (take (8 + len) (drop s img)) m 8) ≡ take w (drop m (copy_bytes w img₀ s len)) =
-        ap (λ (x : List ℕ). take w (from x m 8)) kept
-        ∙ word_of (take (8 + len) (drop s img₀)) (round_up w len - len) m w h8 ci in
-        let more = wrote_more img₀ img img' (copy_bytes w img₀ s len) p₀ p p' t m (m + w) fronted (rw (z, ← word) e'')
-        (omega arith) ci (omega arith) in
-        wrote_all img₀ img' (copy_bytes w img₀ s len) p₀ p' t (m + w) more
-        (all_in (copy_bytes w img₀ s len) w (m + w) (8 + len) (on_word w m w hm (mod_self w)) copy_on copy_lt
-        (omega arith) ci)
+      source_is : take (s + (8 + len) - s) (drop s front) ≡ take (8 + len) (drop s img)
+      source_is = let g = forth in source_before img front s (8 + len) t f (omega arith)
+
+      pub forth_fits : 0 + round_up w (length (take (s + (8 + len) - s) (drop s front))) ≤ length back
+      forth_fits =
+          let n : length (take (s + (8 + len) - s) (drop s front)) ≡ 8 + len = ap length source_is ∙ source_long in
+          rw n (omega (arith, size_is w len hw h8, ap length parts, length-append front back))
+
+      pub copied_forth : (back' : List ℕ) (p p' : ℕ)
+          → Wrote back p back' p' 0 (take (s + (8 + len) - s) (drop s front)
+          ++ pad w (length (take (s + (8 + len) - s) (drop s front))))
+          → Wrote img p (front ++ back') p' t (take (8 + len) (drop s img) ++ pad w len)
+      copied_forth back' p p' e =
+          let bs : List ℕ = take (8 + len) (drop s img) ++ pad w len in
+          let e' : Wrote back p back' p' 0 bs =
+          wrote_as (copy_is (take (s + (8 + len) - s) (drop s front)) source_is) e in
+          subst (λ (z : List ℕ). Wrote z p (front ++ back') p' t bs) (sym parts)
+          (wrote_back front back back' bs p p' t (sym at) e')
+
+    -- a copy before its source
+    module _ (le : t ≤ s) (f : back ≡ drop s img) (at : length front ≡ s) where
+      before : t + size w len ≤ s
+      before = let z = size_is w len hw h8 in ⊎_elim (λ x. absurd (omega arith)) (λ x. x) apart
+
+      pub back_fits : t + round_up w (length (take (8 + len) back)) ≤ length front
+      back_fits =
+          let g = before in
+          let n : length (take (8 + len) back) ≡ 8 + len = rw f source_long in
+          rw n (omega (arith, size_is w len hw h8))
+
+      pub copied_back : (front' : List ℕ) (p p' : ℕ)
+          → Wrote front p front' p' t (take (8 + len) back ++ pad w (length (take (8 + len) back)))
+          → Wrote img p (front' ++ back) p' t (take (8 + len) (drop s img) ++ pad w len)
+      copied_back front' p p' e =
+          let g = before in
+          let bs : List ℕ = take (8 + len) (drop s img) ++ pad w len in
+          let l = copy_long in
+          let e' : Wrote front p front' p' t bs = wrote_as (copy_is (take (8 + len) back) (ap (take (8 + len)) f)) e in
+          subst (λ (z : List ℕ). Wrote z p (front' ++ back) p' t bs) (sym parts)
+          (wrote_front front front' back bs p p' t (omega arith) e')

@@ -1,4 +1,5 @@
--- `calls::look_and_run` meets its contract: a corrupted page, or the run.
+-- A corrupted page, or the run.
+use mathlib.Core.Path.{sym, ◌∙◌}
 use Rattle.mend.proofs.Auto.{looked_bad, looked_run}
 use Rattle.calls.specs.Code.{run_of}
 use Rattle.calls.proofs.look_and_run.Goals as goal
@@ -6,16 +7,16 @@ use Rattle.calls.proofs.look_and_run.Goals as goal
 pub returns-then-any_corrupted : goal.returns-then-any_corrupted
 returns-then-any_corrupted c =
     let a = c.args in
-    let b = c.any_corrupted in
-    let t = c.if-any_corrupted in
-    looked_bad a.g a.slots a.g.pages (run_of a.g a.job a.v.now) a.img.now a.power.now
-    a.mem b.result b.ensures t.true
+    let s = a.storage.now in
+    let g = c.pages.ensures in
+    let t = sym c.any_corrupted.ensures ∙ c.if-any_corrupted.true in
+    looked_bad s.flash.now.geo.pages (run_of s.flash.now.geo a.job a.value.now) s (rw g.1 at (rw g.0 at t))
 
 pub returns : goal.returns
 returns c =
     let a = c.args in
-    let b = c.any_corrupted in
-    let t = c.if-any_corrupted in
-    let r = c.run in
-    looked_run a.g a.slots a.g.pages (run_of a.g a.job a.v.now) a.img.now a.power.now
-    a.mem b.result b.ensures r.new.img r.new.power r.result t.false r.ensures
+    let s = a.storage.now in
+    let g = c.pages.ensures in
+    let t = sym c.any_corrupted.ensures ∙ c.if-any_corrupted.false in
+    looked_run s.flash.now.geo.pages (run_of s.flash.now.geo a.job a.value.now) s c.run.new.storage c.run.result
+    (rw g.1 at (rw g.0 at t)) c.run.ensures

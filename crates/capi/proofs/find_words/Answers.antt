@@ -1,32 +1,22 @@
-use mathlib.Core.Logic.{inl, inr}
-use native.Mathlib.Nat.{zero-add}
-use Rattle.capi.proofs.Still.{find_yes, find_on, find_no}
-use borrow.Author.Rules.{rules}
+-- `capi::find_words` meets its contract: the words hold the first entries of the lent cache.
+use mathlib.Core.Path.{◌≡◌}
+use Prim.Native.Nat.{◌+◌, ◌-◌}
+use lib.ListN.{length}
+use native.Mathlib.Omega.{arith}
+use Rattle.std.proofs.Common.{rules}
+use Rattle.capi.proofs.Still.{find_none, find_some}
 use Rattle.capi.proofs.find_words.Goals as goal
-use Rattle.capi.proofs.find_words.Goals.{else-words-i, then-words-i+else-words-i-ne0}
 
-pub loop-i-init : goal.loop-i-init
-loop-i-init c = (search rules, zero-add _)
-
-pub returns-then-words-i-ne0 : goal.returns-then-words-i-ne0
-returns-then-words-i-ne0 c =
-    let l = c.loop-i in
+pub returns-in_err-i : goal.returns-in_err-i
+returns-in_err-i c =
     let a = c.args in
-    find_yes a.words.now c.requires.0 a.size c.requires.1 a.key l.i c.loop-i-test.true l.invariant.1 c.if-words-i.true
-    c.if-words-i-ne0.true
-
-pub loop-i-preserved : goal.loop-i-preserved
-loop-i-preserved c =
-    let l = c.loop-i in
-    let a = c.args in (
-      search rules,
-      find_on a.words.now c.requires.0 a.size c.requires.1 a.key l.i c.loop-i-test.true l.invariant.1
-          (elim c.if-words-i.branch
-          [ then-words-i+else-words-i-ne0 w ↦ inr w.if-words-i-ne0.false | else-words-i w ↦ inl w.if-words-i.false ]),
-    )
+    let h : length a.words.now ≡ 64 = search rules in
+    let n : 32 + a.size - 32 ≡ a.size = omega arith in
+    rw c.from_residual.ensures (find_none a.words.now h a.size c.requires a.key (rw n at c.in_err-i.ensures))
 
 pub returns : goal.returns
 returns c =
-    let l = c.loop-i in
     let a = c.args in
-    find_no a.words.now c.requires.0 a.size c.requires.1 a.key l.i l.invariant.1 c.loop-i-test.false
+    let h : length a.words.now ≡ 64 = search rules in
+    let n : 32 + a.size - 32 ≡ a.size = omega arith in
+    rw n (find_some a.words.now h a.size c.requires a.key c.in_ok-i.i (rw n at c.in_ok-i.ensures))

@@ -1,28 +1,18 @@
-use native.Mathlib.Omega.{arith}
-use mathlib.Core.Path.{◌≡◌, refl, sym, ◌∙◌}
-use Prim.Native.Nat.{◌-◌}
-use Rattle.inspect.proofs.Laws.{ff_here, ff_on}
+use Rattle.std.proofs.Common.{◌≡◌, arith, rules, tests}
+use Rattle.std.proofs.lemmas.Iterator.{IsFirst-from_position, YieldsList-from_slice}
+use Rattle.inspect.proofs.Laws.{ff_none, ff_some}
 use Rattle.inspect.proofs.first_not_ff.Goals as goal
 
-pub loop-i-init : goal.loop-i-init
-loop-i-init c = (omega arith, refl)
-
-pub returns-then-img-i : goal.returns-then-img-i
-returns-then-img-i c =
-    let a = c.args in
-    let l = c.loop-i in
-    sym (ff_here a.img.now a.e (omega arith) l.i c.loop-i-test.true c.if-img-i.true) ∙ l.invariant.1
-
-pub loop-i-preserved : goal.loop-i-preserved
-loop-i-preserved c =
-    let a = c.args in
-    let l = c.loop-i in
-    (omega arith, sym (ff_on a.img.now a.e (omega arith) l.i c.loop-i-test.true c.if-img-i.false) ∙ l.invariant.1)
+pub returns-in_err-passed : goal.returns-in_err-passed
+returns-in_err-passed c =
+    let first = IsFirst-from_position _ _ _ (λ x. x ≡ 255 → ⊥) (λ x. x ≡ 255) c.position.ensures.ran
+    (YieldsList-from_slice _ c.iter.ensures.rest) (λ x q k. search (rules, tests)) (λ x q k. search (rules, tests)) in
+    let all = rw c.in_err-passed.was at first in
+    rw c.from_residual.ensures (ff_none _ (λ k l. all k 0 (omega arith) l))
 
 pub returns : goal.returns
 returns c =
-    let a = c.args in
-    let l = c.loop-i in
-    let q : a.e - l.i ≡ 0 = omega arith in
-    let y : a.e ≡ l.i = omega arith in
-    y ∙ (rw q at l.invariant.1)
+    let first = IsFirst-from_position _ _ _ (λ x. x ≡ 255 → ⊥) (λ x. x ≡ 255) c.position.ensures.ran
+    (YieldsList-from_slice _ c.iter.ensures.rest) (λ x q k. search (rules, tests)) (λ x q k. search (rules, tests)) in
+    let one = rw c.in_ok-passed.was at first in
+    ff_some c.args.a _ c.in_ok-passed.passed one.0 (one.1 0) (λ k l. one.2 k 0 (omega arith) l)

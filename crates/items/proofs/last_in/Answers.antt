@@ -1,16 +1,11 @@
-use Rattle.items.specs.Code.{told, or_of, part}
-use Rattle.items.proofs.Laws.{spot_step, long_part}
-use Rattle.items.proofs.Laws.{long_part}
-use Rattle.items.proofs.Laws.{by_end, by_skip, in_none, last-item, or_missing}
+use Rattle.items.proofs.Laws.{by_end, by_skip, in_none, best_step, or_best}
 use native.Mathlib.Omega.{arith}
 use mathlib.Core.Path.{sym, ap, ◌∙◌}
-use Rattle.items.specs.Code.{told, or_of}
+use Rattle.items.specs.Code.{told}
 use Rattle.rules.specs.Items.{Scan, presents}
 use Rattle.rules.specs.Fetch.{last_with}
+use Rattle.items.proofs.last_in.Goals.{then-has_key, else-has_key}
 use Rattle.items.proofs.last_in.Goals as goal
-
-pub loop-at-init : goal.loop-at-init
-loop-at-init c = (omega arith, omega arith, or_missing _, tt)
 
 pub returns-in-End : goal.returns-in-End
 returns-in-End c =
@@ -29,36 +24,27 @@ loop-at-preserved-in-Skip c =
     c.look_at-r.ensures.0 c.in-Skip.is in (
       omega arith,
       omega arith,
-      sym (ap (λ (x : Scan). or_of (told (last_with a.wanted (presents x.items))) l.best) s) ∙ l.invariant.2,
+      sym (ap (λ (x : Scan). or_best (told (last_with a.wanted (presents x.items))) l.best) s) ∙ l.invariant.2,
       l.invariant.3,
     )
-
-pub better-best-requires : goal.better-best-requires
-better-best-requires c =
-    let f = rw c.in-Item.is at c.look_at-r.ensures.1 in
-    let l = long_part c.args.img.now c.loop-at.at c.args.e (omega arith) in
-    omega arith
-
-pub size-at-requires : goal.size-at-requires
-size-at-requires c = let f = rw c.in-Item.is at c.look_at-r.ensures.1 in omega arith
-
-pub overflow_add-at-in-Item : goal.overflow_add-at-in-Item
-overflow_add-at-in-Item c = let f = rw c.in-Item.is at c.look_at-r.ensures.1 in omega arith
 
 pub loop-at-preserved : goal.loop-at-preserved
 loop-at-preserved c =
     let a = c.args in
     let l = c.loop-at in
-    let f = rw c.in-Item.is at c.look_at-r.ensures.1 in (
-      omega arith,
-      omega arith,
-      rw c.size-at.ensures.0 (last-item a.w (omega arith) a.img.now a.e (omega arith) l.at c.look_at-r.result
-          c.loop-at-test.true c.look_at-r.ensures.0 a.wanted c.in-Item.len l.best c.better-best.result _ c.in-Item.is
-          l.invariant.2 c.better-best.ensures),
-      spot_step (part a.img.now l.at a.e) l.at c.in-Item.len a.wanted a.e l.best c.better-best.result (omega arith)
-          (omega arith) (omega arith) (omega (arith, long_part a.img.now l.at a.e (omega arith))) l.invariant.3
-          c.better-best.ensures,
-    )
+    let f = rw c.in-Item.is at c.look_at-r.ensures.1 in
+    let s = best_step a.w (omega arith) a.img.now a.e (omega arith) l.at c.look_at-r.result c.loop-at-test.true
+    c.look_at-r.ensures.0 a.wanted c.in-Item.len l.best _ c.in-Item.is l.invariant.2 in
+    let s' = rw (← c.has_key.ensures.0) at s in
+    rw c.size-at.ensures.0 (elim c.if-has_key.branch [
+      | then-has_key w ↦ (
+        omega arith,
+        omega arith,
+        rw w.best-is (rw w.if-has_key.true at s'),
+        rw w.best-is (let k = rw w.if-has_key.true at c.has_key.ensures.1 in omega arith),
+      )
+      | else-has_key w ↦ (omega arith, omega arith, rw w.best-is (rw w.if-has_key.false at s'), rw w.best-is l.invariant.3)
+    ])
 
 pub returns : goal.returns
 returns c =

@@ -1,53 +1,23 @@
--- `map::erase_all_cut` meets its contract: it is refused and takes no power, or it runs while the power lasts.
+-- It is refused and takes no power, or it runs while the power lasts.
 use Rattle.rules.specs.Remove.{erase_all}
 use Rattle.rules.specs.Calls.{called, steps_of}
-use mathlib.Core.Path.{refl}
-use mathlib.Core.Logic.{inl}
-use native.Mathlib.Omega.{arith}
-use Rattle.laws.specs.Geometry.{fits, page_some, held}
+use mathlib.Core.Path.{ap}
+use borrow.Author.Rules.{rules}
 use Rattle.map.proofs.Laws.{refused-cut, ran_cut}
 use Rattle.map.proofs.erase_all_cut.Goals as goal
 
-pub returns-then-number-ne0 : goal.returns-then-number-ne0
+pub returns-in-Err : goal.returns-in-Err
 unfolding called steps_of
-returns-then-number-ne0 c =
+returns-in-Err c =
     let a = c.args in
-    let no = c.refusal-no in
-    let d = c.number in
-    refused-cut a.page a.size 0 a.img.now no.result d.result no.ensures d.ensures
-    (λ G s. erase_all G s) a.cache a.power.now c.if-number-ne0.true
-
-pub geometry-g-requires : goal.geometry-g-requires
-geometry-g-requires c =
-    let a = c.args in
-    let no = c.refusal-no in
-    let d = c.number in
-    page_some 4 a.page a.size 0 a.img.now (inl refl) no.result d.result no.ensures d.ensures
-    c.if-number-ne0.false
-
-pub erase_all-requires : goal.erase_all-requires
-erase_all-requires c =
-    let a = c.args in
-    let no = c.refusal-no in
-    let d = c.number in
-    let z = c.if-number-ne0.false in
-    let F =
-    fits 4 a.page a.size 0 a.img.now (inl refl) no.result d.result no.ensures d.ensures z in (
-      held 4 a.page a.size 0 a.img.now (inl refl) no.result d.result no.ensures d.ensures z
-          c.geometry-g.result c.geometry-g.ensures,
-      F.cached,
-      omega arith,
-    )
+    let no = c.in-Err.ensures.is in
+    refused-cut a.page a.size 0 a.img.now c.in-Err.no no.0 no.1 (λ G s. erase_all G s) a.cache a.power.now
 
 pub returns : goal.returns
 unfolding called steps_of
 returns c =
     let a = c.args in
-    let no = c.refusal-no in
-    let d = c.number in
-    let g = c.geometry-g in
-    let F = c.erase_all in
-    rw c.hand_back.ensures
-    (ran_cut a.page a.size 0 a.img.now no.result d.result no.ensures d.ensures
-    (λ G s. erase_all G s) a.cache a.power.now c.if-number-ne0.false _ g.result g.ensures F.new.img
-    F.new.power F.result F.ensures)
+    let ok = c.in-Ok.ensures.is in
+    let F = c.erase_all-answer in
+    ran_cut a.page a.size 0 a.img.now ok.0 c.in-Ok.geo ok.1 (λ G s. erase_all G s) c.in-Ok.ensures.fits.0 a.cache
+    a.power.now F.new.storage F.result F.ensures.run.is (ap (λ x. x.count) F.ensures.run.keeps.slots) F.ensures.run.keeps.past _ _ (search rules) (search rules)

@@ -1,13 +1,15 @@
--- `mend::try_repair` meets its contract: the corrupted pages, and then what the definition goes on with.
 use Rattle.mend.proofs.Laws.{repair_is}
+use Rattle.rules.specs.Runs.{out}
+use Rattle.rules.specs.declared.{Answer.TheVariants.Done}
+use native.Mathlib.Omega.{arith}
 use Rattle.mend.proofs.try_repair.Goals as goal
+
+pub mend-requires : goal.mend-requires
+mend-requires c =
+    let e = c.erase_corrupted.ensures (out Done) in
+    omega (arith, e.erased, c.empty.ensures.1.erased, c.empty.new.self.flash.now.held.few)
 
 pub returns : goal.returns
 returns c =
-    let mend = c.mend in
-    let erase_corrupted = c.erase_corrupted-h in
-    let empty = c.empty-m in
-    let a = c.args in
-    repair_is a.g a.slots a.img.now erase_corrupted.new.img mend.new.img a.power.now
-    erase_corrupted.new.power mend.new.power a.mem empty.result erase_corrupted.result
-    mend.result empty.ensures.0 empty.ensures.1 erase_corrupted.ensures mend.ensures
+    repair_is c.args.storage.now c.empty.new.self c.erase_corrupted.new.storage c.mend.new.storage _ c.empty.ensures.0
+    c.empty.ensures.1 c.erase_corrupted.ensures c.mend.ensures

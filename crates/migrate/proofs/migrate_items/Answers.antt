@@ -1,29 +1,28 @@
--- `migrate::migrate_items` meets its contract: the run over the items, and where it is done the erase that the
--- definition goes on with.
-use Rattle.migrate.proofs.Laws.{pages_apart, migrate-ok, migrate_bad}
-use Rattle.migrate.proofs.Cached.{page_lies}
+-- The run over the items, and where it is done the erase that the definition goes on with.
 use lib.ListN.{length}
-use native.Mathlib.Omega.{arith}
-use borrow.Author.Rules.{rules}
+use Rattle.migrate.proofs.Laws.{areas, migrate-ok, migrate_bad}
 use Rattle.migrate.proofs.migrate_items.Goals as goal
 
-pub migrate_all-r-requires : goal.migrate_all-r-requires
-migrate_all-r-requires c =
-    let a = c.args in
-    let p = c.requires in
-    let A = pages_apart a.g.page a.g.word a.source a.target (omega arith) p.4 in (
-      search rules,
-      p.1,
-      page_lies a.g (length a.img.now) p.0 a.source p.2 _ _ c.data_at-a.ensures.0
-          c.end_at-e.ensures.0,
-      omega arith,
-      omega arith,
-      omega arith,
-      rw (c.data_at-a.ensures.0, c.end_at-e.ensures.0, c.data_at-to.ensures.0) A,
-    )
+pub migrate_all-requires : goal.migrate_all-requires
+migrate_all-requires c =
+    let s = c.args.storage.now in
+    let g = c.pages-pages.ensures.1 in
+    let r = c.requires in
+    rw (rw g at c.data_at-a.ensures.0, rw g at c.end_at-e.ensures.0, rw g at c.data_at-to.ensures.0)
+    (areas s.flash.now.geo (length s.flash.now.img.now) s.flash.now.held c.args.source c.args.target r.0 r.1 r.2)
 
-pub returns-then-r : goal.returns-then-r
-returns-then-r c = (search migrate-ok, search rules, omega arith)
+pub returns-in_err-migrate_all : goal.returns-in_err-migrate_all
+returns-in_err-migrate_all c =
+    let s = c.args.storage.now in
+    let g = c.pages-pages.ensures.1 in
+    migrate_bad c.args.source c.args.target _ _ _ s c.migrate_all.new.storage (rw g at c.data_at-a.ensures.0)
+    (rw g at c.end_at-e.ensures.0) (rw g at c.data_at-to.ensures.0) _ c.in_err-migrate_all.ensures _
+    c.from_residual.ensures.0
 
 pub returns : goal.returns
-returns c = (search migrate_bad, search rules, omega arith)
+returns c =
+    let s = c.args.storage.now in
+    let g = c.pages-pages.ensures.1 in
+    migrate-ok c.args.source c.args.target _ _ _ s c.migrate_all.new.storage (rw g at c.data_at-a.ensures.0)
+    (rw g at c.end_at-e.ensures.0) (rw g at c.data_at-to.ensures.0) _ c.in_ok-migrate_all.ensures c.erase_page.new.self
+    c.erase_page.ensures

@@ -1,53 +1,75 @@
--- `migrate::migrate_one` meets its contract: by what the fetch finds, the item is copied, stays, or ends the run.
-use Rattle.migrate.proofs.Laws.{move_bad, move_not, move_copy, near}
+use native.Mathlib.Omega.{arith}
+use mathlib.Core.Path.{refl, ap, sym, ◌∙◌}
+use Rattle.std.specs.Prelude.{Ok}
 use Rattle.laws.specs.Reading.{le_size}
 use Rattle.items.proofs.Laws.{long_part}
-use mathlib.Core.Logic.{inl, inr}
-use native.Mathlib.Omega.{arith}
+use Rattle.migrate.proofs.Laws.{not_present, not_found, elsewhere, here, near}
 use Rattle.migrate.proofs.migrate_one.Goals as goal
+
+pub present-requires : goal.present-requires
+present-requires c =
+    let s = c.args.storage.now in
+    let z = le_size s.flash.now.geo.word c.args.len (omega (arith, s.flash.now.held.low)) in
+    let l = long_part s.flash.now.img.now c.args.at c.args.e (omega arith) in
+    rw c.pages.ensures.0 (omega arith, omega arith)
+
+pub returns-then-not-present : goal.returns-then-not-present
+returns-then-not-present c =
+    let p = rw c.pages.ensures.0 at c.present.ensures.0 in
+    not_present c.args.at c.args.e c.args.len c.args.to c.args.storage.now (sym c.if-not-present.true ∙ p)
 
 pub key-key-requires : goal.key-key-requires
 key-key-requires c =
-    let a = c.args in
-    let z = le_size a.g.word a.len (omega arith) in
-    let l = long_part a.img.now a.at a.e (omega arith) in
-    omega arith
+    let s = c.args.storage.now in
+    let z = le_size s.flash.now.geo.word c.args.len (omega (arith, s.flash.now.held.low)) in
+    let l = long_part s.flash.now.img.now c.args.at c.args.e (omega arith) in
+    let k = rw c.if-not-present.false at c.present.ensures.1 in
+    rw c.pages.ensures.0 (omega arith, k)
 
-pub returns-in-Corrupt : goal.returns-in-Corrupt
-returns-in-Corrupt c =
+pub returns-in_err-newest : goal.returns-in_err-newest
+returns-in_err-newest c =
     let a = c.args in
-    let f = c.fetch_in-f in
-    move_bad a.g a.slots a.img.now a.mem a.at a.e a.len a.to c.key-key.result f.result
-    c.key-key.ensures f.ensures.0 f.ensures.2 a.power.now (inr c.in-Corrupt.is)
+    let p = rw c.pages.ensures.0 at c.present.ensures.0 in
+    let k = rw c.pages.ensures.0 at c.key-key.ensures in
+    let f = c.fetch.ensures in
+    not_found a.at a.e a.len a.to a.storage.now c.key-key.result c.fetch.new.self (sym c.if-not-present.false ∙ p) k
+    c.fetch.result f.found f.state f.kept c.from_residual.result c.from_residual.ensures.0
+    (λ s q. let z = sym c.in_err-newest.was ∙ q in cc)
 
-pub returns-in-Missing : goal.returns-in-Missing
-returns-in-Missing c =
+pub returns-in_default : goal.returns-in_default
+returns-in_default c =
     let a = c.args in
-    let f = c.fetch_in-f in
-    move_bad a.g a.slots a.img.now a.mem a.at a.e a.len a.to c.key-key.result f.result
-    c.key-key.ensures f.ensures.0 f.ensures.2 a.power.now (inl c.in-Missing.is)
+    let p = rw c.pages.ensures.0 at c.present.ensures.0 in
+    let k = rw c.pages.ensures.0 at c.key-key.ensures in
+    let f = c.fetch.ensures in
+    not_found a.at a.e a.len a.to a.storage.now c.key-key.result c.fetch.new.self (sym c.if-not-present.false ∙ p) k
+    c.fetch.result f.found f.state f.kept _ refl
+    (λ s q. let z = sym (c.in_ok-newest.was ∙ ap Ok c.in_default.is) ∙ q in cc)
 
-pub returns-then-p-at : goal.returns-then-p-at
-returns-then-p-at c =
+pub returns-then-newest-at : goal.returns-then-newest-at
+returns-then-newest-at c =
     let a = c.args in
-    let f = c.fetch_in-f in
-    move_not a.g a.slots a.img.now a.mem a.at a.e a.len a.to c.key-key.result f.result
-    c.key-key.ensures f.ensures.0 f.ensures.2 a.power.now _ _ c.in-At.is c.if-p-at.true
+    let p = rw c.pages.ensures.0 at c.present.ensures.0 in
+    let k = rw c.pages.ensures.0 at c.key-key.ensures in
+    let f = c.fetch.ensures in
+    elsewhere a.at a.e a.len a.to a.storage.now c.key-key.result c.fetch.new.self (sym c.if-not-present.false ∙ p) k
+    c.fetch.result f.found f.state f.kept c.in-Some.newest (c.in_ok-newest.was ∙ ap Ok c.in-Some.is) c.if-newest-at.true
 
 pub copy_one-requires : goal.copy_one-requires
 copy_one-requires c =
     let a = c.args in
-    let p = c.requires in
-    (p.0, p.1, p.3, omega arith, p.6, near a.at a.e a.len a.to a.g.word (omega arith) p.4 p.7)
+    let r = c.requires in
+    let w = a.storage.now.flash.now.geo.word in
+    let K = c.fetch.ensures.kept in
+    rw (K.image, K.keeps.same.geo)
+    (omega arith, omega arith, r.3, near a.at a.e a.len a.to w (omega (arith, a.storage.now.flash.now.held.low)) r.1 r.4)
 
 pub returns : goal.returns
 returns c =
     let a = c.args in
-    let p = c.requires in
-    let f = c.fetch_in-f in
-    let C = c.copy_one in
-    let z = le_size a.g.word a.len (omega (arith, p)) in
-    move_copy a.g a.slots a.img.now a.mem a.at a.e a.len a.to c.key-key.result f.result
-    c.key-key.ensures f.ensures.0 f.ensures.2 C.new.img a.power.now
-    C.new.power C.result C.ensures (omega (arith, p)) p.4 (omega (arith, p)) p.6
-    p.7 _ _ c.in-At.is c.if-p-at.false
+    let p = rw c.pages.ensures.0 at c.present.ensures.0 in
+    let k = rw c.pages.ensures.0 at c.key-key.ensures in
+    let f = c.fetch.ensures in
+    here a.at a.e a.len a.to a.storage.now c.key-key.result c.fetch.new.self (sym c.if-not-present.false ∙ p) k
+    c.fetch.result f.found f.state f.kept c.in-Some.newest (c.in_ok-newest.was ∙ ap Ok c.in-Some.is) c.if-newest-at.false
+    _ f.kept.keeps.same.geo c.copy_one.new.storage c.copy_one.result c.copy_one.ensures

@@ -1,19 +1,11 @@
-use Rattle.laws.specs.Through.{thr_refl}
-use Rattle.remove.proofs.Laws.{erase-on, erased_all}
-use mathlib.Core.Path.{refl}
-use native.Mathlib.Omega.{arith}
+use Rattle.remove.proofs.Laws.{erased_none, erased_more, erased_all}
 use Rattle.remove.proofs.erase_all.Goals as goal
 
 pub loop-p-init : goal.loop-p-init
-loop-p-init c = (omega arith, omega arith, refl, thr_refl _ _ _ _)
-
-pub overflow_add-erased : goal.overflow_add-erased
-overflow_add-erased c =
-    let K = c.empty-m.ensures.1.erased in
-    omega arith
+loop-p-init c = erased_none _
 
 pub loop-p-preserved : goal.loop-p-preserved
-loop-p-preserved c = (omega arith, omega arith, omega arith, search erase-on)
+loop-p-preserved c = search erased_more
 
 pub returns : goal.returns
 returns c = search erased_all

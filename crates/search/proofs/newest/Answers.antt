@@ -1,43 +1,46 @@
 use Rattle.rules.specs.Fetch.{newest}
 use borrow.Author.Tests.{lt-ltb, le-ltb}
+use native.Mathlib.Omega.{arith}
 use Rattle.search.proofs.newest.Goals as goal
 
-pub returns-then-p-n : goal.returns-then-p-n
+pub returns-in-Some-clause-is : goal.returns-in-Some-clause-is
 unfolding newest
-returns-then-p-n c =
-    (rw (← c.first-p.ensures.0, lt-ltb _ _ c.if-p-n.true) c.search_from.ensures.0, c.search_from.ensures.1)
+returns-in-Some-clause-is c =
+    let p = c.in-Some.ensures in
+    rw (← p.1, lt-ltb _ _ p.0) c.search_from.ensures.0
 
-pub returns-then-n-o : goal.returns-then-n-o
+pub returns-in_default-first-clause-is : goal.returns-in_default-first-clause-is
 unfolding newest
-returns-then-n-o c =
-    (rw (← c.first-p.ensures.0, le-ltb _ _ c.if-p-n.false, ← c.first-o.ensures.0, le-ltb _ _ c.if-n-o.true), tt)
+returns-in_default-first-clause-is c =
+    let g = c.args.pages.now.geo.pages in
+    rw (c.in_default.ensures, c.in_default-first.ensures, le-ltb g g (omega arith))
 
-pub returns-then-page_is : goal.returns-then-page_is
+pub returns-then-page_is-clause-is : goal.returns-then-page_is-clause-is
 unfolding newest
-returns-then-page_is c = (
-  rw (
-    ← c.first-p.ensures.0,
-    le-ltb _ _ c.if-p-n.false,
-    ← c.first-o.ensures.0,
-    lt-ltb _ _ c.if-n-o.false,
-    ← c.prev-q.ensures.0,
-    ← c.page_is.ensures,
-    c.if-page_is.true,
-  ) c.search_from-then-page_is.ensures.0,
-  c.search_from-then-page_is.ensures.1,
-)
+returns-then-page_is-clause-is c =
+    let g = c.args.pages.now.geo.pages in
+    let o = c.in-Some-first.ensures in
+    rw (
+      c.in_default.ensures,
+      le-ltb g g (omega arith),
+      ← o.1,
+      lt-ltb _ _ o.0,
+      ← c.prev-q.ensures.0,
+      ← c.page_is.ensures,
+      c.if-page_is.true,
+    ) c.search_from-then-page_is.ensures.0
 
-pub returns : goal.returns
+pub returns-clause-is : goal.returns-clause-is
 unfolding newest
-returns c = (
-  rw (
-    ← c.first-p.ensures.0,
-    le-ltb _ _ c.if-p-n.false,
-    ← c.first-o.ensures.0,
-    lt-ltb _ _ c.if-n-o.false,
-    ← c.prev-q.ensures.0,
-    ← c.page_is.ensures,
-    c.if-page_is.false,
-  ),
-  tt,
-)
+returns-clause-is c =
+    let g = c.args.pages.now.geo.pages in
+    let o = c.in-Some-first.ensures in
+    rw (
+      c.in_default.ensures,
+      le-ltb g g (omega arith),
+      ← o.1,
+      lt-ltb _ _ o.0,
+      ← c.prev-q.ensures.0,
+      ← c.page_is.ensures,
+      c.if-page_is.false,
+    )

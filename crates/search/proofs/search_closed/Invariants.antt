@@ -1,15 +1,13 @@
-use Prim.Native.Nat.{◌<◌}
+use Prim.Native.Nat.{◌-◌, ◌<◌}
 use mathlib.Core.Path.{◌≡◌}
 use Rattle.rules.specs.Fetch.{search_closed}
 use Rattle.items.specs.Code.{told}
 use Rattle.ring.specs.Code.{downs}
 use Rattle.search.proofs.search_closed.Given as goal
 
-abbrev pub invariant-loop-m : goal.invariant-loop-m
-invariant-loop-m l =
-    (l.q < l.g.pages)
-    × (told (search_closed l.g l.img l.key (downs l.g l.m l.q))
-    ≡ told (search_closed l.g l.img l.key (downs l.g l.count l.from)))
-
-abbrev pub decreases-loop-m : goal.decreases-loop-m
-decreases-loop-m l = l.m
+-- the pages that are left hold what all of them hold
+abbrev pub invariant-loop : goal.invariant-loop
+invariant-loop l =
+    (l.q < l.pages.geo.pages)
+    × (told (search_closed l.pages.geo l.pages.img.now l.key (downs l.pages.geo (l.count - l.counter) l.q))
+    ≡ told (search_closed l.pages.geo l.pages.img.now l.key (downs l.pages.geo l.count l.from)))

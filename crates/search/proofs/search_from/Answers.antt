@@ -1,23 +1,21 @@
-use native.Mathlib.Omega.{arith}
 use Rattle.search.proofs.Laws.{from_is}
 use Rattle.search.proofs.search_from.Goals as goal
 
-pub returns-in-Corrupt : goal.returns-in-Corrupt
-returns-in-Corrupt c =
-    let a = c.args in
-    (rw (from_is a.g a.img.now a.key a.p (omega arith), ← c.last_item-r.ensures.0, c.in-Corrupt.is), tt)
-
-pub returns-in-At : goal.returns-in-At
-returns-in-At c =
-    let a = c.args in (
-      rw (from_is a.g a.img.now a.key a.p (omega arith), ← c.last_item-r.ensures.0, c.in-At.is),
-      rw c.in-At.is at c.last_item-r.ensures.1,
+pub returns-in-Some : goal.returns-in-Some
+returns-in-Some c =
+    let s = c.args.pages.now in (
+      rw (from_is s.geo s.img.now c.args.key c.args.p c.requires, ← c.last_item.ensures.0, c.in-Some.is),
+      rw c.in-Some.is at c.last_item.ensures.1,
     )
 
-pub returns-in-Missing : goal.returns-in-Missing
-returns-in-Missing c =
-    let a = c.args in (
-      rw (from_is a.g a.img.now a.key a.p (omega arith), ← c.last_item-r.ensures.0, c.in-Missing.is, ← c.prev.ensures.0)
-          c.search_closed.ensures.0,
+pub returns : goal.returns
+returns c =
+    let s = c.args.pages.now in (
+      rw (
+        from_is s.geo s.img.now c.args.key c.args.p c.requires,
+        ← c.last_item.ensures.0,
+        c.in_default.is,
+        ← c.prev.ensures.0,
+      ) c.search_closed.ensures.0,
       c.search_closed.ensures.1,
     )

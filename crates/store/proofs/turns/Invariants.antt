@@ -1,19 +1,12 @@
--- `store::turns` meets its contract. Invariant: the n turns have come through to the t turns that are left.
-use Rattle.laws.specs.Through.{Through}
-use Rattle.fetch.specs.Code.{st_of}
-use Rattle.cache.specs.Code.{Past}
+-- The n turns have come through to the turns that are left.
+use Prim.Native.Nat.{◌-◌}
 use Rattle.rules.specs.Store.{turns}
-use mathlib.Core.Path.{◌≡◌}
-use Prim.Native.Nat.{◌+◌, ◌≤◌}
-use lib.ListN.{length}
+use Rattle.fetch.specs.Code.{st_of, Came}
 use Rattle.store.proofs.turns.Given as goal
 
-abbrev pub invariant-loop-t : goal.invariant-loop-t
-invariant-loop-t l =
-    (l.t ≤ l.g.pages) × (length l.img ≡ length l.initial.img) × Past l.slots l.initial.held.cache l.held.cache
-    × (l.held.erased + l.t ≤ l.initial.held.erased + l.g.pages)
-    × Through l.g (turns l.g l.g.pages l.key l.v (st_of l.slots l.initial.img l.initial.held)) l.initial.img
-    l.initial.power l.img l.power (turns l.g l.t l.key l.v (st_of l.slots l.img l.held))
-
-abbrev pub decreases-loop-t : goal.decreases-loop-t
-decreases-loop-t l = l.t
+abbrev pub invariant-loop : goal.invariant-loop
+invariant-loop l =
+    let s = l.initial.storage in
+    let n = s.flash.now.geo.pages in
+    Came l.counter s l.storage (turns s.flash.now.geo n l.key l.value (st_of s))
+    (turns s.flash.now.geo (n - l.counter) l.key l.value (st_of l.storage))

@@ -1,18 +1,13 @@
-use mathlib.Core.Path.{refl}
 use native.Mathlib.Omega.{arith}
-use Rattle.items.proofs.Laws.{long_part}
 use Rattle.walk.proofs.Laws.{first_none, first_end, first_skip, first_at, first_on}
 use Rattle.walk.proofs.first_in.Goals as goal
-
-pub loop-at-init : goal.loop-at-init
-loop-at-init c = (omega arith, refl)
 
 pub returns-in-End : goal.returns-in-End
 returns-in-End c =
     let a = c.args in
     let l = c.loop-at in (
-      first_end a.w (omega arith) a.img.now a.e (omega arith) l.at _ l.invariant.1 c.look_at-r.result
-          c.loop-at-test.true c.look_at-r.ensures.0 c.in-End.is,
+      first_end a.w (omega arith) a.img.now a.e (omega arith) l.at _ l.invariant.1 c.look_at.result c.loop-at-test.true
+          c.look_at.ensures.0 c.in-End.is,
       tt,
     )
 
@@ -20,44 +15,31 @@ pub loop-at-preserved-in-Skip : goal.loop-at-preserved-in-Skip
 loop-at-preserved-in-Skip c =
     let a = c.args in
     let l = c.loop-at in
-    let f = rw c.in-Skip.is at c.look_at-r.ensures.1 in (
+    let f = rw c.in-Skip.is at c.look_at.ensures.1 in (
       omega arith,
-      first_skip a.w (omega arith) a.img.now a.e (omega arith) l.at _ l.invariant.1 c.look_at-r.result
-          c.loop-at-test.true c.look_at-r.ensures.0 c.in-Skip.is,
+      first_skip a.w (omega arith) a.img.now a.e (omega arith) l.at _ l.invariant.1 c.look_at.result c.loop-at-test.true
+          c.look_at.ensures.0 c.in-Skip.is,
     )
-
-pub present-requires : goal.present-requires
-present-requires c =
-    let a = c.args in
-    let f = rw c.in-Item.is at c.look_at-r.ensures.1 in
-    let l = long_part a.img.now c.loop-at.at a.e (omega arith) in
-    omega arith
 
 pub returns-then-present : goal.returns-then-present
 returns-then-present c =
     let a = c.args in
     let l = c.loop-at in
-    let f = rw c.in-Item.is at c.look_at-r.ensures.1 in
+    let f = rw c.in-Item.is at c.look_at.ensures.1 in
     let k = rw c.if-present.true at c.present.ensures.1 in (
-      first_at a.w (omega arith) a.img.now a.e (omega arith) l.at _ l.invariant.1 c.look_at-r.result c.loop-at-test.true
-          c.look_at-r.ensures.0 c.in-Item.len c.present.result c.in-Item.is c.present.ensures.0 c.if-present.true,
+      first_at a.w (omega arith) a.img.now a.e (omega arith) l.at _ l.invariant.1 c.look_at.result c.loop-at-test.true
+          c.look_at.ensures.0 c.in-Item.len c.present.result c.in-Item.is c.present.ensures.0 c.if-present.true,
       omega arith,
     )
-
-pub size-at-requires : goal.size-at-requires
-size-at-requires c = let f = rw c.in-Item.is at c.look_at-r.ensures.1 in omega arith
-
-pub overflow_add-at-in-Item : goal.overflow_add-at-in-Item
-overflow_add-at-in-Item c = let f = rw c.in-Item.is at c.look_at-r.ensures.1 in omega arith
 
 pub loop-at-preserved : goal.loop-at-preserved
 loop-at-preserved c =
     let a = c.args in
     let l = c.loop-at in
-    let f = rw c.in-Item.is at c.look_at-r.ensures.1 in (
+    let f = rw c.in-Item.is at c.look_at.ensures.1 in (
       omega arith,
       rw c.size-at.ensures.0 (first_on a.w (omega arith) a.img.now a.e (omega arith) l.at _ l.invariant.1
-          c.look_at-r.result c.loop-at-test.true c.look_at-r.ensures.0 c.in-Item.len c.present.result c.in-Item.is
+          c.look_at.result c.loop-at-test.true c.look_at.ensures.0 c.in-Item.len c.present.result c.in-Item.is
           c.present.ensures.0 c.if-present.false),
     )
 

@@ -1,5 +1,4 @@
--- `walk::later` meets its contract: in each turn the answer of the pages that are left is the answer of all.
-use Prim.Native.Nat.{◌<◌}
+use Prim.Native.Nat.{◌-◌, ◌<◌}
 use mathlib.Core.Path.{◌≡◌}
 use Rattle.rules.specs.Pages.{ring_up}
 use Rattle.rules.specs.Walk.{later_pages}
@@ -7,11 +6,10 @@ use Rattle.ring.specs.Code.{ups}
 use Rattle.walk.specs.Code.{told_step}
 use Rattle.walk.proofs.later.Given as goal
 
-abbrev pub invariant-loop-m : goal.invariant-loop-m
-invariant-loop-m l =
-    (l.q < l.g.pages)
-    × (told_step (later_pages l.g l.img l.first (ups l.g l.m l.q))
-    ≡ told_step (later_pages l.g l.img l.first (ring_up l.g l.from)))
-
-abbrev pub decreases-loop-m : goal.decreases-loop-m
-decreases-loop-m l = l.m
+-- the step of the pages that are left is the step of all
+abbrev pub invariant-loop : goal.invariant-loop
+invariant-loop l =
+    (l.q < l.pages.geo.pages)
+    × (told_step (later_pages l.pages.geo l.pages.img.now l.first
+    (ups l.pages.geo (l.pages.geo.pages - l.counter) l.q))
+    ≡ told_step (later_pages l.pages.geo l.pages.img.now l.first (ring_up l.pages.geo l.from)))

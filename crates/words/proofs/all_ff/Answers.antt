@@ -1,23 +1,25 @@
-use Rattle.words.proofs.Laws.{ff_eight_yes, ff_eight_no}
-use mathlib.Core.Path.{refl, ◌∙◌, sym}
-use native.Mathlib.Omega.{arith}
+use Rattle.std.proofs.Common.{eqb, refl, ◌∙◌, rules, tests}
+use Rattle.std.specs.List.{list_all}
+use Rattle.std.proofs.lemmas.Iterator.{YieldsList-from_slice}
+use Rattle.std.proofs.lemmas.Iterator.Search.{all_from_yields_List}
+use Rattle.words.proofs.Laws.{eight_ff, ff_parts}
 use Rattle.words.proofs.all_ff.Goals as goal
 
-pub loop-i-init : goal.loop-i-init
-loop-i-init c = (omega arith, refl)
+pub returns-then-all : goal.returns-then-all
+returns-then-all c =
+    let p = c.as_chunks in
+    let front = all_from_yields_List eight_ff _ _ c.all.result c.all.ensures.ran
+    (YieldsList-from_slice p.result.0.now cc) (λ x b q k. search (rules, tests)) in
+    let last = all_from_yields_List (λ x. eqb x 255) _ _ c.all-then-all.result c.all-then-all.ensures.ran
+    (YieldsList-from_slice p.result.1.now cc) (λ x b q k. search (rules, tests)) in
+    rw c.if-all.true at (ff_parts c.args.s.now p.result.1.now p.result.0.now c.all.result c.all-then-all.result
+    (λ i. (c.type_inv.s i).fits) p.ensures.front p.ensures.back front last)
 
-pub returns-then-le64 : goal.returns-then-le64
-returns-then-le64 c =
-    sym (ff_eight_no c.args.s.now c.loop-i.i (λ i. (c.type_inv.s i).fits) (omega arith)
-    (λ e. c.if-le64.true (c.le64.ensures ∙ e)))
-    ∙ c.loop-i.invariant.1
-
-pub loop-i-preserved : goal.loop-i-preserved
-loop-i-preserved c = (
-  omega arith,
-  sym (ff_eight_yes c.args.s.now c.loop-i.i (λ i. (c.type_inv.s i).fits) (omega arith)
-      (sym c.le64.ensures ∙ c.if-le64.false)) ∙ c.loop-i.invariant.1,
-)
-
-pub returns : goal.returns
-returns c = c.ff_rest.ensures ∙ c.loop-i.invariant.1
+pub returns-else-all : goal.returns-else-all
+returns-else-all c =
+    let p = c.as_chunks in
+    let front = all_from_yields_List eight_ff _ _ c.all.result c.all.ensures.ran
+    (YieldsList-from_slice p.result.0.now cc) (λ x b q k. search (rules, tests)) in
+    c.if-all.false
+    ∙ (rw c.if-all.false at (ff_parts c.args.s.now p.result.1.now p.result.0.now c.all.result
+    (list_all (λ x. eqb x 255) p.result.1.now) (λ i. (c.type_inv.s i).fits) p.ensures.front p.ensures.back front refl))

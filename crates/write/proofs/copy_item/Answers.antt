@@ -1,44 +1,43 @@
--- `write::copy_item` meets its contract: the whole words, and then the last one with its padding.
-use Rattle.write.proofs.Laws.{item_long, length_copy, copy_in, copy_done, copy_last}
-use Rattle.write.specs.Code.{copy_bytes}
-use native.Mathlib.Omega.{arith}
-use mathlib.Core.Logic.{⊎_elim, inl, inr}
+-- The source lies in one part of the image, the target in the other.
+use Rattle.write.proofs.Laws.{forth_fits, copied_forth, back_fits, copied_back}
 use Rattle.write.proofs.copy_item.Goals as goal
 
-pub copy_bytes-requires : goal.copy_bytes-requires
-copy_bytes-requires c =
-    let l = item_long c.args.w c.args.len c.requires.0 in
-    (omega arith, omega arith, ⊎_elim (λ x. inl (omega arith)) (λ x. inr (omega arith)) c.requires.6)
-
-pub copy_word-requires : goal.copy_word-requires
-copy_word-requires c =
+pub program_padded-requires : goal.program_padded-requires
+program_padded-requires c =
     let a = c.args in
     let p = c.requires in
-    let m = c.whole-m in
-    let lc = length_copy a.img.now a.source a.len a.target a.w p.0 p.1 p.2 p.4 in
-    let ci = copy_in a.img.now a.source a.len a.target a.w p.0 p.1 p.2 p.4 m.result
-    m.ensures.2 c.if-m-n.true in
-    (omega arith, p.1, omega arith, omega arith)
+    let s = c.split_at_mut-front in (
+      p.0,
+      p.1,
+      forth_fits a.img.now s.result.0.now s.result.1.now a.source a.len a.target a.w p.0 p.2 p.4 p.5 p.6
+          s.ensures.value c.if-source-target.true s.ensures.front s.ensures.front_len,
+    )
 
-pub returns-then-m-n : goal.returns-then-m-n
-unfolding copy_bytes
-returns-then-m-n c =
+pub returns-then-source-target : goal.returns-then-source-target
+returns-then-source-target c =
     let a = c.args in
     let p = c.requires in
-    let m = c.whole-m in
-    let b = c.copy_bytes in
-    let w = c.copy_word in
-    copy_last a.img.now a.source a.len a.target a.w p.0 p.1 p.2 p.4 b.new.img
-    a.power.now b.new.power m.result m.ensures.2 m.ensures.0 m.ensures.1 p.5 p.6
-    b.ensures (omega arith) c.if-m-n.true w.new.img w.new.power w.ensures
+    let s = c.split_at_mut-front in
+    let x = c.program_padded in
+    copied_forth a.img.now s.result.0.now s.result.1.now a.source a.len a.target a.w p.0 p.2 p.4 p.5 p.6 s.ensures.value
+    c.if-source-target.true s.ensures.front s.ensures.front_len x.new.img a.power.now x.new.power x.ensures
 
-pub returns-else-m-n : goal.returns-else-m-n
-unfolding copy_bytes
-returns-else-m-n c =
+pub program_padded-requires-else-source-target : goal.program_padded-requires-else-source-target
+program_padded-requires-else-source-target c =
     let a = c.args in
     let p = c.requires in
-    let m = c.whole-m in
-    let b = c.copy_bytes in
-    copy_done a.img.now a.source a.len a.target a.w p.0 p.1 p.2 p.4 b.new.img
-    a.power.now b.new.power m.result m.ensures.2 m.ensures.0 m.ensures.1 p.5 p.6
-    b.ensures c.if-m-n.false
+    let s = c.split_at_mut-front-else-source-target in (
+      p.0,
+      p.1,
+      back_fits a.img.now s.result.0.now s.result.1.now a.source a.len a.target a.w p.0 p.2 p.4 p.5 p.6
+          s.ensures.value c.if-source-target.false s.ensures.back s.ensures.front_len,
+    )
+
+pub returns-else-source-target : goal.returns-else-source-target
+returns-else-source-target c =
+    let a = c.args in
+    let p = c.requires in
+    let s = c.split_at_mut-front-else-source-target in
+    let x = c.program_padded-else-source-target in
+    copied_back a.img.now s.result.0.now s.result.1.now a.source a.len a.target a.w p.0 p.2 p.4 p.5 p.6 s.ensures.value
+    c.if-source-target.false s.ensures.back s.ensures.front_len x.new.img a.power.now x.new.power x.ensures

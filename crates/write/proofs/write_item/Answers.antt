@@ -1,23 +1,19 @@
--- `write::write_item` meets its contract: the header, and then the data behind it, are the item.
-use Rattle.write.proofs.Laws.{size_data, item_written}
-use native.Mathlib.Omega.{arith}
-use mathlib.Core.Path.{◌≡◌, ap}
-use lib.ListN.{length}
+-- The header, and then the data behind it, are the item.
+use Rattle.std.proofs.Common.{◌≡◌, ◌∙◌, ap, length, arith}
+use Rattle.write.proofs.Laws.{size_data, item_written, key_zeros}
 use Rattle.write.proofs.write_item.Goals as goal
 
 pub program-requires : goal.program-requires
 program-requires c =
     let a = c.args in
-    let p = c.requires in
-    let l : length c.header-h.result ≡ 8 = ap length c.header-h.ensures in
-    omega (arith, size_data a.w a.key a.v.now p.0 p.1)
-
-pub write_data-requires : goal.write_data-requires
-write_data-requires c =
-    let a = c.args in
-    let p = c.requires in
-    let z = size_data a.w a.key a.v.now p.0 p.1 in
-    (p.0, p.1, p.2, omega arith)
+    let l : length c.header-head.result ≡ 8 = ap length c.header-head.ensures in
+    omega (arith, size_data a.w a.key a.v.now c.requires.0)
 
 pub returns : goal.returns
-returns c = search item_written
+returns c =
+    let a = c.args in
+    let p = c.requires in
+    item_written a.img.now c.program.new.img c.write_data.new.img a.power.now c.program.new.power c.write_data.new.power
+    a.at a.w a.key c.count_zeros.result c.zeros.result c.header-head.result a.v.now c.program.ensures
+    c.write_data.ensures c.header-head.ensures (c.count_zeros.ensures.value ∙ key_zeros a.key c.ranges.key.fits)
+    c.zeros.ensures.0 p.0 p.3

@@ -1,25 +1,25 @@
-use Rattle.lists.proofs.Laws.{from_start, from_step, from_end}
-use Rattle.std.proofs.Common.{◌≡◌, length, sym, ◌∙◌, arith, rules}
+use Rattle.std.proofs.Common.{◌≡◌, ◌∙◌, sym, inl, inr, ⊎_elim, rules, arith}
+use Rattle.lists.specs.Says.{digest_entries}
+use Rattle.lists.proofs.Laws.{entries_start, entries_end}
 use Rattle.lists.proofs.digest.of_cache.Goals as goal
 
-pub loop-i-init : goal.loop-i-init
-loop-i-init c = (omega arith, omega arith, from_start 1 c.args.cache (search rules))
+pub loop-key-init : goal.loop-key-init
+loop-key-init c =
+    let e : c.into_iter-key-iterator.result.a.rest.now ≡ c.args.cache.keys = search rules in
+    let f : c.into_iter-key-iterator.result.b.rest.now ≡ c.args.cache.places = search rules in
+    record { small = omega arith; rest = rw (e, f) (entries_start 1 c.args.cache (search rules)) }
 
-pub loop-i-preserved : goal.loop-i-preserved
-loop-i-preserved c =
-    let l = c.loop-i in
-    let a = c.args.cache in
-    let g : length a.keys ≡ 32 = search rules in
-    let f : length a.places ≡ 32 = search rules in (
-      omega arith,
-      c.mix-h.ensures.1,
-      rw (c.mix-h.ensures.0, c.wide32-in-loop-i.ensures.0, c.mix-k.ensures.0, c.wide32.ensures.0)
-          (sym (from_step l.h a l.i (omega arith) (omega arith)) ∙ l.invariant.2),
-    )
+pub loop-key-preserved : goal.loop-key-preserved
+unfolding digest_entries
+loop-key-preserved c =
+    let s = c.in-Some.ensures.steps in
+    record {
+      small = c.mix-h.ensures.1;
+      rest = rw (c.mix-h.ensures.0, c.mix.ensures.0) (rw (s.0, s.1) at c.loop-key.invariant.rest);
+    }
 
 pub returns : goal.returns
 returns c =
-    let l = c.loop-i in
-    let a = c.args.cache in
-    let g : length a.keys ≡ 32 = search rules in
-    sym (from_end l.h a l.i (omega arith)) ∙ l.invariant.2
+    let i = c.loop-key.key-iterator in
+    sym (entries_end c.loop-key.h i.a.rest.now i.b.rest.now (⊎_elim (λ e. inl e.1.0) (λ e. inr e.1.0) c.in-None.ensures.steps))
+    ∙ c.loop-key.invariant.rest
