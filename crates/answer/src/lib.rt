@@ -1,8 +1,9 @@
 // The answers' numbers and what they show, and the refusals that come before a call.
 #![tactic(auto)]
 
-ghost use Rattle.std.specs.Prelude.{◌≡◌, ◌≤◌, ◌%◌, IfOk, OnOk};
-ghost use Rattle.rules.specs.Answers.{number};
+ghost use Rattle.std.specs.Prelude.{◌≡◌, ◌≤◌, ◌<◌, ◌%◌, IfOk, OnOk};
+ghost use Rattle.rules.specs.Answers.{number, refusal};
+ghost use Rattle.rules.specs.Calls.{geo_of};
 ghost use Rattle.rules.specs.Held.{Held};
 ghost use Rattle.answer.specs.Code.{shown_of, GeometryOk};
 
@@ -52,9 +53,21 @@ pub fn show(a: Answer) -> Shown
     }
 }
 
+// The geometry of an image.
+pub fn geometry(word: usize, page: usize, image_len: usize) -> Geo
+    requires { 0 < page }
+    ensures { result ≡ geo_of word page image_len }
+{
+    Geo {
+        word,
+        page,
+        pages: image_len / page,
+    }
+}
+
 // The geometry that the sizes give, or the first refusal that is due. A call without a cache or a value has 0 there.
 #[tactic(auto, using(crate::proofs::Ladder::turned), unfolding(rules::specs::Answers::refusal))]
-pub fn geometry(
+pub fn try_geometry(
     word: usize,
     page: usize,
     image_len: usize,
@@ -69,18 +82,18 @@ pub fn geometry(
     if page == 0 {
         return Err(Answer::PagesTooSmall);
     }
-    let pages = image_len / page;
+    let geo = geometry(word, page, image_len);
     let least = 3 * word + 8; // a page that holds one item
     if image_len % page != 0 {
         return Err(Answer::EndRangeNotAtPageBoundary);
     }
-    if pages < 2 {
+    if geo.pages < 2 {
         return Err(Answer::RangeTooSmall);
     }
     if page < least {
         return Err(Answer::PagesTooSmall);
     }
-    if page % word != 0 || page > 32768 || pages > 256 {
+    if page % word != 0 || page > 32768 || geo.pages > 256 {
         return Err(Answer::Geometry);
     }
     if size > 32 {
@@ -89,5 +102,16 @@ pub fn geometry(
     if page - 2 * word - 12 < value_len {
         return Err(Answer::ItemTooBig);
     }
-    Ok(Geo { word, page, pages })
+    Ok(geo)
+}
+
+// The first refusal that is due, Done where none is. A call without a cache or a value has 0 there.
+pub fn refusal(word: usize, page: usize, image_len: usize, size: usize, value_len: usize) -> Answer
+    requires { (4 ≤ word) × (word ≤ 8) }
+    ensures { result ≡ refusal word page image_len size value_len }
+{
+    match try_geometry(word, page, image_len, size, value_len) {
+        Ok(_) => Answer::Done,
+        Err(no) => no,
+    }
 }

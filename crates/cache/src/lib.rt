@@ -14,6 +14,7 @@ pub struct Cache {
     pub places: [u32; 32],
 }
 
+// `size`, how many entries count, is the caller's at each call: C lends a cache whole.
 impl Cache {
     // A cache of empty entries.
     pub fn new() -> Cache

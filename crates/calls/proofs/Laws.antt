@@ -101,24 +101,7 @@ pub as_job : (b : ℕ) (j job : Job) (v : List ℕ) (old new : Storage) (a : Ans
     → RunOk b (run_of old.flash.now.geo j v) old new a → RunOk old.flash.now.geo.pages (run_of old.flash.now.geo job v) old new a
 as_job b j job v old new a e h R = rw e (came_more h R)
 
--- ---- what the cache alone finds
-
-module _ (G : Geo) (img : List ℕ) (c : Cache) where
-  pub served_other : (job : Job) → ((k : ℕ) → job ≡ Fetch k → ⊥) → Ok None ≡ told (served_of G job img c)
-  served_other (Fetch k) n = absurd (n k refl)
-  served_other (Store k) n = refl
-  served_other (Remove t) n = refl
-  served_other Start n = refl
-
-  module _ (job : Job) (k : ℕ) (e : job ≡ Fetch k) where
-    pub served_none : lookup k c ≡ 0 → Ok None ≡ told (served_of G job img c)
-    served_none z = rw (e, eq-eqb (lookup k c) 0 z) refl
-
-    pub served_hit : (x : Option Spot) (a : ℕ) → (0 < a) × (a ≡ lookup k c) → Ok x ≡ told (hit G img k a)
-        → Ok x ≡ told (served_of G job img c)
-    served_hit x a h q =
-        let n : lookup k c ≡ 0 → ⊥ = λ z. omega (arith, h) in
-        rw (e, ne_eqb (lookup k c) 0 n, ← h.1) q
+-- ---- what the cache alone finds is an item as a scan gives it
 
 served_plain : (G : Geo) (k : ℕ) (img : List ℕ) (c : Cache)
     → FoundPlain (served_by G k (record { img = img; cache = c; erased = 0 }))

@@ -19,6 +19,7 @@ use ring::Pages;
 use rules::Answer;
 
 // What a call runs behind its look at all page states. A store's value is lent beside it.
+// An enum, and no closure: the contracts name a run by its job, and a job may run twice.
 #[derive(Clone, Copy, PartialEq, Eq)]
 pub enum Job {
     Fetch(u32),

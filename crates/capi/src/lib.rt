@@ -104,7 +104,7 @@ fn find_words(words: &[u32; 64], size: usize, key: u32) -> Option<u32>
 fn fetch_hit(img: &[u8], page: usize, words: &[u32; 64], size: usize, key: u32) -> Option<Answer>
     ensures { IfSome result (StillOk page size key img.now words.now) }
 {
-    let geo = match answer::geometry(4, page, img.len(), size, 0) {
+    let geo = match answer::try_geometry(4, page, img.len(), size, 0) {
         Ok(geo) => geo,
         Err(no) => return Some(no),
     };
@@ -169,7 +169,7 @@ pub extern "C" fn map_fetch_item(
     answer::number(a)
 }
 
-// A call that changes the map, and that can be cut.
+// A call that changes the map, and that can be cut. An enum: a closure for each export would need its own contract.
 #[derive(Clone, Copy)]
 enum Change<'a> {
     Store(u32, &'a [u8]),

@@ -1,4 +1,4 @@
-// The storage of a call: the flash, the cache, and how many pages were erased.
+// The storage of a call, and the fetch inside a call.
 ghost use Rattle.std.specs.Prelude.{◌≡◌, ◌+◌, ◌^◌, ◌≤◌, ◌<◌, IfOk, length};
 
 use cache::Cache;
@@ -12,6 +12,7 @@ pub struct Slots {
     pub ghost few: { count ≤ 32 },
 }
 
+// What a call works on: the flash lent to it, the cache, and how many pages it has erased.
 #[derive(Drop)]
 pub struct Storage<'a, 'b> {
     pub flash: &'a mut Flash<'b>,
@@ -27,7 +28,7 @@ impl Storage<'_, '_> {
     ghost use Rattle.ring.specs.Flash.{Erased};
     ghost use Rattle.fetch.specs.Code.{st_of, KeepsImage, ErasesPage};
 
-    // A place noted.
+    // A place noted. It is a number of 32 bits: no image is longer.
     pub fn note(&mut self, key: u32, place: u32)
         ensures { (st_of self.new ≡ noting key place (st_of self.old)) × KeepsImage self.old self.new }
     {

@@ -165,7 +165,7 @@ fn page_fault(pages: &Pages<'_>) -> Option<Fault>
 pub fn first_fault(img: &[u8], page_size: usize) -> Option<Fault>
     ensures { result ≡ first_fault 4 page_size img.now }
 {
-    match answer::geometry(4, page_size, img.len(), 0, 0) {
+    match answer::try_geometry(4, page_size, img.len(), 0, 0) {
         Ok(geo) => page_fault(&Pages { img, geo }),
         Err(refusal) => Some(Fault::Refused(refusal)),
     }
@@ -200,7 +200,7 @@ impl Tally {
     }
 }
 
-// The tally of the data area from a up to e, in a page of this state.
+// The tally of the data area from a up to e, in a page of this state: each reading says where the next one stands.
 fn tally_in(img: &[u8], a: usize, e: usize, w: usize, state: PageState) -> Tally
     requires { (a ≤ e) × (e ≤ length img.now) × (4 ≤ w) × (w ≤ 8) }
     ensures { result ≡ tally_by w state a e (scan_in w img.now a e) }
@@ -244,7 +244,7 @@ fn tally_at(pages: &Pages<'_>, p: usize) -> Tally
 pub fn tally_page(img: &[u8], page_size: usize, p: usize) -> Tally
     ensures { result ≡ tally_of 4 page_size img.now p }
 {
-    match answer::geometry(4, page_size, img.len(), 0, 0) {
+    match answer::try_geometry(4, page_size, img.len(), 0, 0) {
         Ok(geo) if p < geo.pages => tally_at(&Pages { img, geo }, p),
         _ => Tally::new(PageState::Open),
     }

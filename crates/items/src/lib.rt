@@ -25,7 +25,7 @@ pub struct Spot {
     pub len: usize,
 }
 
-// A search has no page to begin at: none is Open, and none PartialOpen.
+// The image is not as the rules make it: where a call meets that, its answer is Corrupted.
 #[derive(Clone, Copy, PartialEq, Eq)]
 pub struct Corrupt;
 
@@ -50,7 +50,8 @@ pub fn look(s: &[u8], w: usize) -> Read
     Read::Item(len)
 }
 
-// What stands at place at of a data area that ends at e.
+// What stands at place at of a data area that ends at e. The image, the area and the word size stay side by side here
+// and below: a struct of them would be taken apart at once.
 pub fn look_at(img: &[u8], at: usize, e: usize, w: usize) -> Read
     requires { (at ≤ e) × (e ≤ length img.now) × (4 ≤ w) × (w ≤ 8) }
     ensures { (read_of (part img.now at e) result ≡ read w (part img.now at e)) × Stays w at e result }
@@ -100,7 +101,8 @@ pub fn has_key(s: &[u8], len: usize, wanted: u32) -> bool
     4 <= len && key(s, len) == wanted && present(s, len)
 }
 
-// The last Present item with the key from a place to the area's end.
+// The last Present item with the key from a place to the area's end. The place is no counted index: each reading says
+// where the next one stands.
 pub fn last_in(img: &[u8], a: usize, e: usize, w: usize, wanted: u32) -> Option<Spot>
     requires { (4 ≤ a) × (a ≤ e) × (e ≤ length img.now) × (4 ≤ w) × (w ≤ 8) }
     ensures { (Ok result ≡ told (last_with wanted (presents (scan_in w img.now a e).items))) × SpotIn e result }
@@ -128,7 +130,7 @@ pub fn last_in(img: &[u8], a: usize, e: usize, w: usize, wanted: u32) -> Option<
     best
 }
 
-// Where the scan from a place to the area's end ends.
+// Where the scan from a place to the area's end ends, in the same steps.
 pub fn end_in(img: &[u8], a: usize, e: usize, w: usize) -> usize
     requires { (a ≤ e) × (e ≤ length img.now) × (4 ≤ w) × (w ≤ 8) }
     ensures { (result ≡ (scan_in w img.now a e).end) × (a ≤ result) × (result ≤ e) }

@@ -183,11 +183,6 @@ module _ (G : Geo) where
             ∙ page);
       }
 
-pub cursor_done : (G : Geo) (a : Answer) (img : List ℕ) (d f p : ℕ) → d ≡ number a → d ≡ 0 → f ≡ walk_first G img
-    → p ≡ data_at G f
-    → record { first = f; page = f; place = p } ≡ first_cursor G a img
-cursor_done G a img d f p hd z hf hp = rw (hp, eq-eqb (number a) 0 (sym hd ∙ z), ← hf)
-
 -- ---- a step, as it is handed back
 
 pub step_answer_lem : (c : Cursor) (x : Step) → (stepped_by c (told_step x)).answer ≡ step_answer x

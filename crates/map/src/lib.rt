@@ -1,4 +1,5 @@
 // The public calls: any image, page size, cache, cursor, key and value; words of 4 bytes. The refusals come first.
+// Image, page size, cache, size and power stand side by side in them, as C lends them.
 #![tactic(auto)]
 
 ghost use Rattle.std.specs.Prelude.{◌≡◌, length};
@@ -40,14 +41,11 @@ pub struct Stepped {
     pub cursor: Cursor,
 }
 
-// Whether calls on these sizes are refused: Done, or the refusal that they answer.
+// Whether calls on these sizes are refused: Done, or the refusal that they answer. It can't fail, so it is no Result.
 pub fn try_new(page: usize, image_len: usize, size: usize) -> Answer
     ensures { result ≡ refusal 4 page image_len size 0 }
 {
-    match answer::geometry(4, page, image_len, size, 0) {
-        Ok(_) => Answer::Done,
-        Err(no) => no,
-    }
+    answer::refusal(4, page, image_len, size, 0)
 }
 
 // The len bytes at place, the empty start of the image where they do not lie in it.
@@ -75,7 +73,7 @@ fn behind(
     ensures { RunCut page size (length value.now) (lent_of img.old cache) (λ G s. call_of G job value.now s)
         power.old power.new (told_of img.new result) }
 {
-    let geo = match answer::geometry(4, page, img.len(), size, value.len()) {
+    let geo = match answer::try_geometry(4, page, img.len(), size, value.len()) {
         Ok(geo) => geo,
         Err(no) => {
             return Told {
@@ -118,7 +116,7 @@ pub fn fetch_item(img: &mut [u8], page: usize, cache: Cache, size: usize, key: u
 pub fn fetch_plain(img: &[u8], page: usize, key: u32) -> Answer
     ensures { PlainOk page key img.now result }
 {
-    match answer::geometry(4, page, img.len(), 0, 0) {
+    match answer::try_geometry(4, page, img.len(), 0, 0) {
         Ok(geo) => calls::plain_fetch(&Pages { img, geo }, key),
         Err(no) => no,
     }
@@ -221,7 +219,7 @@ pub fn erase_all_cut(
     ensures { CutOk page size erase_all_pages (lent_of img.old cache)
         power.old power.new (told_of img.new result) }
 {
-    let geo = match answer::geometry(4, page, img.len(), size, 0) {
+    let geo = match answer::try_geometry(4, page, img.len(), size, 0) {
         Ok(geo) => geo,
         Err(no) => {
             return Told {
@@ -281,7 +279,7 @@ fn first_cursor(pages: &Pages<'_>, answer: Answer) -> Cursor
 pub fn fetch_all_items(img: &mut [u8], page: usize, cache: Cache, size: usize) -> Started
     ensures { started_of img.new result ≡ called 4 page size fetch_all_items (lent_of img.old cache) }
 {
-    let geo = match answer::geometry(4, page, img.len(), size, 0) {
+    let geo = match answer::try_geometry(4, page, img.len(), size, 0) {
         Ok(geo) => geo,
         Err(no) => {
             return Started {
@@ -333,7 +331,7 @@ fn hand_step(step: Option<walk::Stepped>, cursor: Cursor) -> Stepped
 pub fn next_item(img: &[u8], page: usize, cursor: Cursor) -> Stepped
     ensures { StepOk page cursor img.now result }
 {
-    match answer::geometry(4, page, img.len(), 0, 0) {
+    match answer::try_geometry(4, page, img.len(), 0, 0) {
         Ok(geo) => hand_step(walk::walk_step(&Pages { img, geo }, cursor), cursor),
         Err(no) => Stepped { answer: no, cursor },
     }

@@ -64,7 +64,8 @@ fn migrate_one(
     copy_one(storage, key, at, len, to)
 }
 
-// The items from a place of the source to its end, in order.
+// The items from a place of the source to its end, in order. No iterator: the image is written between two readings,
+// and each says where the next one stands.
 fn migrate_all(storage: &mut Storage<'_, '_>, a: usize, e: usize, to: usize) -> Result<(), Corrupt>
     requires { (a ≤ e) × (e ≤ length storage.old.flash.now.img.now) × (to + (e - a) ≤ length storage.old.flash.now.img.now)
         × ((to + (e - a) ≤ a) ⊎ (e ≤ to)) }

@@ -29,9 +29,6 @@ module _ (G : Geo) (t : PageState) (img : List ℕ) (p : ℕ) (h : p < G.pages) 
   y : suc p ≡ p + 1
   y = omega arith
 
-  pub first_yes : same t (state G img p) ≡ true → first_with G t img (up_from p (G.pages - p)) ≡ p
-  first_yes e = rw (z, e)
-
   pub first_no : same t (state G img p) ≡ false → first_with G t img (up_from p (G.pages - p)) ≡ first_with G t img (up_from (p + 1) (G.pages - (p + 1)))
   first_no e = rw (z, e, y)
 

@@ -35,6 +35,7 @@ pub struct Cursor {
 }
 
 // What a call answers. A value has a place and a length, an item a key before them.
+// One enum for values and refusals: docs/RULES.md has one table for all.
 #[derive(Clone, Copy, PartialEq, Eq)]
 pub enum Answer {
     Done,

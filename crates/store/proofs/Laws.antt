@@ -27,22 +27,6 @@ use Rattle.fetch.specs.Code.{st_of, KeepsImage, Came, RunOk}
 use Rattle.fetch.proofs.Runs.{came_refl, came_then, came_more, came_from, came_to, came_still, came_program, came_on}
 use Rattle.store.specs.Code.{roll_of, fill_of}
 
-pub next-apart : (G : Geo) (q x : ℕ) → q < G.pages → x ≡ next G q → 2 ≤ G.pages → (x < q) ⊎ (q < x)
-next-apart G q x h e h₂ = go (eqb (suc q) G.pages) refl e
-  where
-    go : (b : Bool) → eqb (suc q) G.pages ≡ b → x ≡ pick b 0 (suc q) → (x < q) ⊎ (q < x)
-    go true y z = inl (omega (arith, eqb-true (suc q) G.pages y))
-    go false y z = inr (omega arith)
-
--- a free spot lies before the end word
-pub spot_room : (G : Geo) (img : List ℕ) (p m : ℕ) → true ≡ has_free_spot G img p m → (scan_of G img p).end + m ≤ end_at G p
-spot_room G img p m h = go (leb ((scan_of G img p).end + m) (end_at G p)) refl (sym h)
-  where
-    go : (b : Bool) → leb ((scan_of G img p).end + m) (end_at G p) ≡ b
-        → both b (blank_at img (scan_of G img p).end m) ≡ true → (scan_of G img p).end + m ≤ end_at G p
-    go true e q = leb-true ((scan_of G img p).end + m) (end_at G p) e
-    go false e q = cc
-
 -- only FullStorage has number 7
 pub not-full : (a : Answer) → (a ≡ FullStorage → ⊥) → is_no 7 a ≡ false
 not-full Done n = refl

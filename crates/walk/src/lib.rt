@@ -21,7 +21,7 @@ pub struct Stepped {
     pub cursor: Cursor,
 }
 
-// The first Present item from a place to the area's end.
+// The first Present item from a place to the area's end: each reading says where the next one stands.
 fn first_in(img: &[u8], a: usize, e: usize, w: usize) -> Option<Spot>
     requires { (a ≤ e) × (e ≤ length img.now) × (4 ≤ w) × (w ≤ 8) }
     ensures { (result ≡ head_spot (presents (scan_in w img.now a e).items)) × Fits w e result }

@@ -114,7 +114,8 @@ fn spend(power: usize, units: usize) -> usize
     }
 }
 
-// Programs bytes at a place while the power lasts, a unit for each. All of the map's programming is done here.
+// Programs bytes at a place while the power lasts, a unit for each. All of the map's programming is done here. Image and
+// power stand side by side here and in erase: what both ask of the image is a length, so a type of both would ask more.
 pub fn program(img: &mut [u8], at: usize, b: &[u8], power: &mut usize)
     requires { at + length b.now ≤ length img.old }
     ensures { Wrote img.old power.old img.new power.new at b.now }

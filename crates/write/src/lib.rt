@@ -60,7 +60,7 @@ fn write_data(img: &mut [u8], at: usize, w: usize, key: u32, v: &[u8], power: &m
     program_padded(img, at + w, w, rest, power);
 }
 
-// Programs a new item.
+// Programs a new item. Image, word size and power stand side by side: a type of them would ask more of callers.
 #[tactic(auto, using(crate::proofs::Laws::size_data))]
 pub fn write_item(img: &mut [u8], at: usize, w: usize, key: u32, v: &[u8], power: &mut usize)
     requires { (4 ≤ w) × (w ≤ 8) × (length v.now ≤ 32768) × (at + size w (4 + length v.now) ≤ length img.old) }
