@@ -88,7 +88,8 @@ module _ (E m : ℕ) (call : Call) (img ws pw ow : List ℕ) where
 
   pub cut-told : Lengths (length ws) (length pw) (length ow) → (held : Cache)
       → pointers 32 held ≡ entries_of ws
-      → (i : List ℕ) (p' : ℕ) (t : Told) → CutOk E m call (lent_of img held) (get_or pw 0 0) p' (told_of i t) → (r : Told)
+      → (i : List ℕ) (p' : ℕ) (t : Told) → CutOk E m call (lent_of img held) (get_or pw 0 0) p' (told_of i t)
+      → (r : Told)
       → WordsOk t r
       → (n : ℕ) (c o : List ℕ)
       → (n ≡ number r.answer) × (c ≡ cache_words (pointers 32 r.cache)) × (o ≡ out_words r.erased r.answer)

@@ -10,12 +10,14 @@ use lib.ListN.{length, get_or, take, drop, length-drop, take-append-drop}
 use lib.Seq.{length-take-le, take_all, take-take, get_or-take}
 use borrow.Author.Tests.{ne_eqb, eq-eqb}
 use Rattle.std.proofs.Common.{Option, Some, Result, Ok, Err}
-use Rattle.rules.specs.declared.{Geo.Geo, Answer.Answer, Answer.TheVariants.Done, Answer.TheVariants.Value, Answer.TheVariants.Corrupted}
+use Rattle.rules.specs.declared.{Geo.Geo, Answer.Answer, Answer.TheVariants.Done, Answer.TheVariants.Value}
+use Rattle.rules.specs.declared.{Answer.TheVariants.Corrupted}
 use Rattle.rules.specs.Bytes.{pick}
 use Rattle.rules.specs.Cache.{Cache as Entries, lookup, note}
 use Rattle.rules.specs.Answers.{number, is_no, refusal}
 use Rattle.rules.specs.Runs.{St, out, on}
-use Rattle.rules.specs.Fetch.{Found, corrupt, missing, found, hit, served_by, answer_of, note_found, newest, fetch_in, run_fetch, plain_fetch}
+use Rattle.rules.specs.Fetch.{Found, corrupt, missing, found, hit, served_by, answer_of, note_found, newest, fetch_in}
+use Rattle.rules.specs.Fetch.{run_fetch, plain_fetch}
 use Rattle.rules.specs.Store.{fetch_by, fetch, looked, auto_repair}
 use Rattle.rules.specs.Calls.{geo_of, behind, called, Told as Handed, Lent, no_cursor, fetch_item, fetch_plain}
 use Rattle.laws.specs.Plain.{FoundPlain, hit-plain}
@@ -65,12 +67,14 @@ module _ (ws : List ℕ) (h : length ws ≡ 64) (n : ℕ) (hn : n ≤ 32) (k : �
   long : length (take n ws) ≡ n
   long = length-take-le n ws (omega arith)
 
-  pub find_none : length (take n ws) ≤ index k (entries (take n ws) (take n (drop 32 ws))) → lookup k (pointers n (lent_cache ws)) ≡ 0
+  pub find_none : length (take n ws) ≤ index k (entries (take n ws) (take n (drop 32 ws)))
+      → lookup k (pointers n (lent_cache ws)) ≡ 0
   find_none l =
       none (lent_cache ws) n sized k (index k (pointers n (lent_cache ws))) refl (rw (first_entries, long) at l)
 
   pub find_some : (i : ℕ) → (i < length (take n ws)) × (i ≡ index k (entries (take n ws) (take n (drop 32 ws))))
-      → (0 < get_or (take n (drop 32 ws)) i 0) × (get_or (take n (drop 32 ws)) i 0 ≡ lookup k (pointers n (lent_cache ws)))
+      → (0 < get_or (take n (drop 32 ws)) i 0)
+      × (get_or (take n (drop 32 ws)) i 0 ≡ lookup k (pointers n (lent_cache ws)))
   find_some i f =
       let l : i < n = omega (arith, f.0, long) in
       let e : i ≡ index k (pointers n (lent_cache ws)) = rw first_entries at f.1 in
@@ -98,9 +102,11 @@ module _ (E m k : ℕ) (img ws : List ℕ) where
   unfolding called behind
   still_refused a r = rw (← r.0, ne_eqb (number a) 0 (λ z. absurd (omega (arith, r.1))))
 
-  pub still_hit : (G : Geo) → (refusal 4 E (length img) m 0 ≡ Done) × (G ≡ geo_of 4 E (length img)) → length ws ≡ 64 → m ≤ 32
+  pub still_hit : (G : Geo) → (refusal 4 E (length img) m 0 ≡ Done) × (G ≡ geo_of 4 E (length img)) → length ws ≡ 64
+      → m ≤ 32
       → (a : ℕ) → (0 < a) × (a ≡ lookup k (pointers m (lent_cache ws)))
-      → (spot : Spot) → Ok (Some spot) ≡ told (hit G img k a) → StillOk E m k img ws (Value (spot.at + 12) (spot.len - 4))
+      → (spot : Spot) → Ok (Some spot) ≡ told (hit G img k a)
+      → StillOk E m k img ws (Value (spot.at + 12) (spot.len - 4))
   unfolding called behind fetch
   still_hit G g h few a f spot q =
       let s : St = record { img = img; cache = take m (entries_of ws); erased = 0 } in

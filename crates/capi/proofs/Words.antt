@@ -41,12 +41,14 @@ places_back (suc n) (k ∷ ks) [] h g = absurd (omega arith)
 places_back (suc n) (k ∷ ks) (p ∷ ps) h g = ap (λ (t : List ℕ). p ∷ t) (places_back n ks ps (omega arith) (omega arith))
 
 -- the words of a cache are its two arrays
-pub cache_out : (c : Cache) → length c.keys ≡ 32 → length c.places ≡ 32 → cache_words (pointers 32 c) ≡ c.keys ++ c.places
+pub cache_out : (c : Cache) → length c.keys ≡ 32 → length c.places ≡ 32
+    → cache_words (pointers 32 c) ≡ c.keys ++ c.places
 unfolding pointers
 cache_out c h g = rw (keys_back 32 c.keys c.places h g, places_back 32 c.keys c.places h g)
 
 -- 64 words, with the first half changed and then the second
-pub both : (ws v w ks ps : List ℕ) → length ks ≡ 32 → length ws ≡ 64 → v ≡ ks ++ drop 32 ws → w ≡ take 32 v ++ (ps ++ drop 32 (drop 32 v)) → w ≡ ks ++ ps
+pub both : (ws v w ks ps : List ℕ) → length ks ≡ 32 → length ws ≡ 64 → v ≡ ks ++ drop 32 ws
+    → w ≡ take 32 v ++ (ps ++ drop 32 (drop 32 v)) → w ≡ ks ++ ps
 both ws v w ks ps h n e f =
     let none = drop_of_length-le (drop 32 ws) {i = 32} (omega (arith, length-drop 32 ws)) in
     f ∙ rw (e, take_at ks (drop 32 ws) 32 h, drop_at ks (drop 32 ws) 32 h, none, append-nil ps)

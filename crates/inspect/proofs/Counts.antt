@@ -4,7 +4,8 @@ use Prim.Native.Nat.{ℕ, ◌+◌, ◌-◌, ◌≤◌, ◌<◌}
 use native.Mathlib.Omega.{arith}
 use mathlib.Core.List.{List, []}
 use lib.ListN.{length}
-use Rattle.rules.specs.declared.{PageState.PageState, Kind.TheVariants.Present, Kind.TheVariants.Removed, Kind.TheVariants.Damaged}
+use Rattle.rules.specs.declared.{PageState.PageState, Kind.TheVariants.Present, Kind.TheVariants.Removed}
+use Rattle.rules.specs.declared.{Kind.TheVariants.Damaged}
 use Rattle.rules.specs.Items.{Scan, item_of, size, read}
 use Rattle.laws.specs.Entries.{spans, scan-ok}
 use Rattle.items.specs.declared.{Read.Read, Read.TheVariants.End, Read.TheVariants.Skip, Read.TheVariants.Item}
@@ -33,7 +34,8 @@ module _ (w : ℕ) (h₄ : 4 ≤ w) (h₈ : w ≤ 8) (img : List ℕ) (a e : ℕ
   hw = omega arith
 
   module _ (at : ℕ) (t : Tally) (C : Counted w img a e s at t) where
-    ended : scan_in w img at e ≡ record { items = []; end = at } → with_free t (e - at) ≡ tally_by w s a e (scan_in w img a e)
+    ended : scan_in w img at e ≡ record { items = []; end = at }
+        → with_free t (e - at) ≡ tally_by w s a e (scan_in w img a e)
     unfolding tally_by
     ended q =
         let x : Scan = scan_in w img a e in

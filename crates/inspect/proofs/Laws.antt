@@ -40,7 +40,8 @@ module _ (G : Geo) (img : List ℕ) (q m : ℕ) (closed : Bool) (X : ℕ)
   apart_here h t = let z : m ≡ suc (m - 1) = omega arith in rw (z, t) at x
 
   pub apart-on : 0 < m → apart closed (state G img q) ≡ false
-      → (c : Bool) (q' : ℕ) → c ≡ seen closed (state G img q) → q' ≡ next G q → open_after G img c (ups G (m - 1) q') ≡ X
+      → (c : Bool) (q' : ℕ) → c ≡ seen closed (state G img q) → q' ≡ next G q
+      → open_after G img c (ups G (m - 1) q') ≡ X
   unfolding ups
   apart-on h f c q' hc hq = let z : m ≡ suc (m - 1) = omega arith in rw (hc, hq) (rw (z, f) at x)
 
@@ -56,7 +57,8 @@ module _ (G : Geo) (img : List ℕ) (q : ℕ) (h : q < G.pages) where
   dirty_here e = rw (z, e)
 
   pub dirty-on : dirty G img q ≡ false
-      → first_by G (dirty G img) (up_from q (G.pages - q)) ≡ first_by G (dirty G img) (up_from (q + 1) (G.pages - (q + 1)))
+      → first_by G (dirty G img) (up_from q (G.pages - q))
+      ≡ first_by G (dirty G img) (up_from (q + 1) (G.pages - (q + 1)))
   dirty-on e = rw (z, e, y)
 
 -- a test that finds a fault, and one that finds none

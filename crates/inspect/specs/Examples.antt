@@ -6,7 +6,10 @@ use Rattle.rules.specs.Bytes.{zeros_in, zero_bits, round_up}
 use Rattle.rules.specs.Items.{read_by, read, size, pad, encode, encode_data, scan}
 use Rattle.rules.specs.Pages.{state, scan_of, ring_up}
 use Rattle.rules.specs.Answers.{refusal}
-use Rattle.inspect.specs.declared.{Fault.TheVariants.Refused, Fault.TheVariants.CorruptedPage, Fault.TheVariants.NoPartialOpen, Fault.TheVariants.SecondPartialOpen, Fault.TheVariants.NextNotOpen, Fault.TheVariants.OpenApart, Fault.TheVariants.DataNotBlank, Fault.TheVariants.TailNotBlank}
+use Rattle.inspect.specs.declared.{Fault.TheVariants.Refused, Fault.TheVariants.CorruptedPage}
+use Rattle.inspect.specs.declared.{Fault.TheVariants.NoPartialOpen, Fault.TheVariants.SecondPartialOpen}
+use Rattle.inspect.specs.declared.{Fault.TheVariants.NextNotOpen, Fault.TheVariants.OpenApart}
+use Rattle.inspect.specs.declared.{Fault.TheVariants.DataNotBlank, Fault.TheVariants.TailNotBlank}
 use Rattle.inspect.specs.Faults.{blank_fault, used_fault, page_fault, first_fault}
 use Rattle.inspect.specs.Tallies.{no_tally, tally_by, tally_of}
 

@@ -1,11 +1,18 @@
 -- The first reason why an image is not sound.
-use Rattle.std.specs.Prelude.{ℕ, suc, ◌-◌, Bool, true, false, not, List, [], ◌∷◌, Option, None, Some, length, take, drop, eqb}
-use Rattle.rules.specs.declared.{Geo.Geo, PageState.PageState, PageState.TheVariants.Open, PageState.TheVariants.PartialOpen, PageState.TheVariants.Closed, PageState.TheVariants.Corrupted}
+use Rattle.std.specs.Prelude.{ℕ, suc, ◌-◌, Bool, true, false, not, List, [], ◌∷◌, Option, None, Some, length, take}
+use Rattle.std.specs.Prelude.{drop, eqb}
+use Rattle.rules.specs.declared.{Geo.Geo, PageState.PageState, PageState.TheVariants.Open}
+use Rattle.rules.specs.declared.{PageState.TheVariants.PartialOpen, PageState.TheVariants.Closed}
+use Rattle.rules.specs.declared.{PageState.TheVariants.Corrupted}
 use Rattle.rules.specs.Bytes.{pick, both}
-use Rattle.rules.specs.Pages.{same, up_from, blank_at, data_at, end_at, area_len, area, state, scan_of, next, all_pages, ring_up, first_with, first_page, is_page}
+use Rattle.rules.specs.Pages.{same, up_from, blank_at, data_at, end_at, area_len, area, state, scan_of, next, all_pages}
+use Rattle.rules.specs.Pages.{ring_up, first_with, first_page, is_page}
 use Rattle.rules.specs.Answers.{number, refusal}
 use Rattle.rules.specs.Calls.{geo_of}
-use Rattle.inspect.specs.declared.{Fault.Fault, Fault.TheVariants.Refused, Fault.TheVariants.CorruptedPage, Fault.TheVariants.NoPartialOpen, Fault.TheVariants.SecondPartialOpen, Fault.TheVariants.NextNotOpen, Fault.TheVariants.OpenApart, Fault.TheVariants.DataNotBlank, Fault.TheVariants.TailNotBlank}
+use Rattle.inspect.specs.declared.{Fault.Fault, Fault.TheVariants.Refused, Fault.TheVariants.CorruptedPage}
+use Rattle.inspect.specs.declared.{Fault.TheVariants.NoPartialOpen, Fault.TheVariants.SecondPartialOpen}
+use Rattle.inspect.specs.declared.{Fault.TheVariants.NextNotOpen, Fault.TheVariants.OpenApart}
+use Rattle.inspect.specs.declared.{Fault.TheVariants.DataNotBlank, Fault.TheVariants.TailNotBlank}
 
 -- the place of the first of these bytes that is not 0xFF, the first of them being at place a;
 -- the place after them if there is none

@@ -1,6 +1,7 @@
 -- What the bytes of a page's data area hold.
 use Rattle.std.specs.Prelude.{ℕ, ◌+◌, ◌-◌, List, [], ◌∷◌, length}
-use Rattle.rules.specs.declared.{PageState.PageState, PageState.TheVariants.Open, Kind.Kind, Kind.TheVariants.Present, Kind.TheVariants.Removed, Kind.TheVariants.Damaged}
+use Rattle.rules.specs.declared.{PageState.PageState, PageState.TheVariants.Open, Kind.Kind, Kind.TheVariants.Present}
+use Rattle.rules.specs.declared.{Kind.TheVariants.Removed, Kind.TheVariants.Damaged}
 use Rattle.rules.specs.Bytes.{pick}
 use Rattle.rules.specs.Items.{Entry, Scan, size}
 use Rattle.rules.specs.Pages.{data_at, end_at, state, scan_of, is_page}

@@ -1,5 +1,7 @@
 -- Digests and values, in the form that the loops ask.
-use Rattle.std.proofs.Common.{◌≡◌, ℕ, zero, suc, ◌+◌, ◌-◌, ◌%◌, ◌<◌, ◌≤◌, true, false, List, [], ◌∷◌, ◌++◌, length, get_or, take, drop, set, refl, ap, append-nil, add-one, arith, drop_of_length-le, take_all, drop-cons, take-suc-set, eq-eqb, ne_eqb, ◌⊎◌, ⊎_elim}
+use Rattle.std.proofs.Common.{◌≡◌, ℕ, zero, suc, ◌+◌, ◌-◌, ◌%◌, ◌<◌, ◌≤◌, true, false, List, [], ◌∷◌, ◌++◌, length}
+use Rattle.std.proofs.Common.{get_or, take, drop, set, refl, ap, append-nil, add-one, arith, drop_of_length-le}
+use Rattle.std.proofs.Common.{take_all, drop-cons, take-suc-set, eq-eqb, ne_eqb, ◌⊎◌, ⊎_elim}
 use lib.Seq.{append_snoc}
 use Rattle.rules.specs.Cache.{Pointer}
 use Rattle.cache.specs.declared.{Cache.Cache}
@@ -8,7 +10,8 @@ use Rattle.lists.specs.Says.{mix, digest, digest_entries, value_of, alike}
 
 -- ---- digests
 
-pub digest_step : (h : ℕ) (s : List ℕ) (i : ℕ) → i < length s → digest h (drop i s) ≡ digest (mix h (get_or s i 0)) (drop (i + 1) s)
+pub digest_step : (h : ℕ) (s : List ℕ) (i : ℕ) → i < length s
+    → digest h (drop i s) ≡ digest (mix h (get_or s i 0)) (drop (i + 1) s)
 unfolding digest
 digest_step h s i g = rw (add-one, drop-cons s i 0)
 
@@ -22,10 +25,12 @@ entries-all zero [] ys h = refl
 entries-all zero (x ∷ xs) ys h = absurd (omega arith)
 entries-all (suc n) [] ys h = refl
 entries-all (suc n) (x ∷ xs) [] h = refl
-entries-all (suc n) (x ∷ xs) (y ∷ ys) h = ap (λ (t : List Pointer). record { key = x; place = y } ∷ t) (entries-all n xs ys (omega arith))
+entries-all (suc n) (x ∷ xs) (y ∷ ys) h =
+    ap (λ (t : List Pointer). record { key = x; place = y } ∷ t) (entries-all n xs ys (omega arith))
 
 -- a digest of all entries
-pub entries_start : (h : ℕ) (c : Cache) → length c.keys ≡ 32 → digest_entries h (entries c.keys c.places) ≡ digest_entries h (pointers 32 c)
+pub entries_start : (h : ℕ) (c : Cache) → length c.keys ≡ 32
+    → digest_entries h (entries c.keys c.places) ≡ digest_entries h (pointers 32 c)
 unfolding pointers
 entries_start h c g = rw (entries-all 32 c.keys c.places (omega arith))
 
@@ -60,7 +65,8 @@ module _ (s : List ℕ) (i b step : ℕ) where
       rw (q, drop-cons s i 0 h, ne_eqb _ _ g)
 
   pub alike_yes : i < length s → get_or s i 0 ≡ b
-      → alike (drop i s) (value_of (length s - i) b step) ≡ alike (drop (i + 1) s) (value_of (length s - (i + 1)) ((b + step) % 256) step)
+      → alike (drop i s) (value_of (length s - i) b step)
+      ≡ alike (drop (i + 1) s) (value_of (length s - (i + 1)) ((b + step) % 256) step)
   unfolding alike value_of
   alike_yes h g =
       let q : length s - i ≡ suc (length s - (i + 1)) = omega arith in

@@ -1,7 +1,9 @@
 -- How a line of a list is read, byte by byte.
-use Rattle.std.specs.Prelude.{◌≡◌, ℕ, ◌+◌, ◌-◌, ◌*◌, true, false, List, [], ◌∷◌, ◌++◌, ◌==◌, nat_le, nat_lt, length, slice_index, slice_set, Option, Some, None, refl}
+use Rattle.std.specs.Prelude.{◌≡◌, ℕ, ◌+◌, ◌-◌, ◌*◌, true, false, List, [], ◌∷◌, ◌++◌, ◌==◌, nat_le, nat_lt, length}
+use Rattle.std.specs.Prelude.{slice_index, slice_set, Option, Some, None, refl}
 use Rattle.rules.specs.Bytes.{pick}
-use Rattle.lists.specs.declared.{line.Call.Call, line.Line.Line, line.Line.TheVariants.Blank, line.Line.TheVariants.Comment, line.Line.TheVariants.Broken}
+use Rattle.lists.specs.declared.{line.Call.Call, line.Line.Line, line.Line.TheVariants.Blank}
+use Rattle.lists.specs.declared.{line.Line.TheVariants.Comment, line.Line.TheVariants.Broken}
 use Rattle.lists.specs.declared.line.Line.TheVariants.{Call as Calling}
 
 -- a call with this letter alone
@@ -15,7 +17,11 @@ opened a = pick (a == 10) Blank (pick (a == 35) Comment (pick (a == 63) Broken (
 -- a space begins a number: not two spaces, not a ninth number
 abbrev pub begun : Call → Option Call
 begun c =
-    let more : Call = record { letter = c.letter; numbers = record { items = c.numbers.items ++ 0 ∷ [] }; due = true } in
+    let more : Call = record {
+      letter = c.letter;
+      numbers = record { items = c.numbers.items ++ 0 ∷ [] };
+      due = true;
+    } in
     pick c.due None (pick (nat_le 8 (length c.numbers.items)) None (Some more))
 
 -- a digit goes on with the last number, of 32 bits
@@ -23,7 +29,11 @@ abbrev pub grown : Call → ℕ → Option Call
 grown c d =
     let last = length c.numbers.items - 1 in
     let x = slice_index c.numbers.items last * 10 + d in
-    let more : Call = record { letter = c.letter; numbers = record { items = slice_set c.numbers.items last x }; due = false } in
+    let more : Call = record {
+      letter = c.letter;
+      numbers = record { items = slice_set c.numbers.items last x };
+      due = false;
+    } in
     pick (length c.numbers.items == 0) None (pick (nat_lt 4294967295 x) None (Some more))
 
 -- a call's line, where it goes on
@@ -46,7 +56,9 @@ read_all l [] = l
 read_all l (b ∷ bs) = read_all (read_byte l b) bs
 
 -- "f 12 0", the largest number, and one more
-pub examples : (read_all Blank (102 ∷ 32 ∷ 49 ∷ 50 ∷ 32 ∷ 48 ∷ []) ≡ Calling (record { letter = 102; numbers = record { items = 12 ∷ 0 ∷ [] }; due = false }))
-    × (read_all Blank (114 ∷ 32 ∷ 52 ∷ 50 ∷ 57 ∷ 52 ∷ 57 ∷ 54 ∷ 55 ∷ 50 ∷ 57 ∷ 53 ∷ []) ≡ Calling (record { letter = 114; numbers = record { items = 4294967295 ∷ [] }; due = false }))
+pub examples : (read_all Blank (102 ∷ 32 ∷ 49 ∷ 50 ∷ 32 ∷ 48 ∷ [])
+    ≡ Calling (record { letter = 102; numbers = record { items = 12 ∷ 0 ∷ [] }; due = false }))
+    × (read_all Blank (114 ∷ 32 ∷ 52 ∷ 50 ∷ 57 ∷ 52 ∷ 57 ∷ 54 ∷ 55 ∷ 50 ∷ 57 ∷ 53 ∷ [])
+    ≡ Calling (record { letter = 114; numbers = record { items = 4294967295 ∷ [] }; due = false }))
     × (read_all Blank (114 ∷ 32 ∷ 52 ∷ 50 ∷ 57 ∷ 52 ∷ 57 ∷ 54 ∷ 55 ∷ 50 ∷ 57 ∷ 54 ∷ []) ≡ Broken)
 examples = (refl, refl, refl)

@@ -1,5 +1,6 @@
 -- What a list says: digests, values by rule, and whether a call did what its line says.
-use Rattle.std.specs.Prelude.{◌≡◌, ℕ, zero, suc, ◌+◌, ◌*◌, ◌%◌, Bool, true, false, List, [], ◌∷◌, length, ◌==◌, Option, Some, None}
+use Rattle.std.specs.Prelude.{◌≡◌, ℕ, zero, suc, ◌+◌, ◌*◌, ◌%◌, Bool, true, false, List, [], ◌∷◌, length, ◌==◌, Option}
+use Rattle.std.specs.Prelude.{Some, None}
 use Rattle.rules.specs.declared.{Cursor.Cursor}
 use Rattle.rules.specs.Bytes.{both}
 use Rattle.rules.specs.Cache.{Cache as Entries}

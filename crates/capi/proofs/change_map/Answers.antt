@@ -21,7 +21,8 @@ pub finish-requires : goal.finish-requires
 finish-requires c =
     let a = c.args in
     let r = c.run-told in
-    told-fits a.page a.size (change_call a.job) (lent_of a.img.now c.cache_of.result) (told_of r.new.img r.result) r.ensures
+    told-fits a.page a.size (change_call a.job) (lent_of a.img.now c.cache_of.result) (told_of r.new.img r.result)
+    r.ensures
 
 pub returns : goal.returns
 returns c =
@@ -30,5 +31,6 @@ returns c =
     let held = rw w.same at c.cache_of.ensures in
     let r = c.run-told in
     let f = c.finish in
-    told a.page a.size (change_call a.job) a.img.now a.cache.now a.out.now w.long c.in-Some-as_mut_array.ensures.cases.long
-    c.cache_of.result held r.new.img r.result r.ensures f.result f.new.cache f.new.out f.ensures
+    told a.page a.size (change_call a.job) a.img.now a.cache.now a.out.now w.long
+    c.in-Some-as_mut_array.ensures.cases.long c.cache_of.result held r.new.img r.result r.ensures f.result f.new.cache
+    f.new.out f.ensures

@@ -12,7 +12,8 @@ pub finish-requires : goal.finish-requires
 finish-requires c =
     let a = c.args in
     let r = c.fetch_item-told in
-    told-fits a.page a.size (fetch_item a.key) (lent_of a.img.now c.cache_of.result) (told_of r.new.img r.result) r.ensures
+    told-fits a.page a.size (fetch_item a.key) (lent_of a.img.now c.cache_of.result) (told_of r.new.img r.result)
+    r.ensures
 
 pub returns : goal.returns
 returns c =

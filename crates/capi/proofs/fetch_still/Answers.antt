@@ -11,5 +11,5 @@ returns-else-eq c =
     let a = c.args in
     let r = c.fetch_plain-a in
     let f : c.eq.result ≡ is_no 8 r.result = search rules in
-    rw c.if-size-eq0.true
-    (still_plain a.page a.key a.img.now a.words.now r.result r.ensures (eqb-false (number r.result) 8 (sym f ∙ c.if-eq.false)))
+    rw c.if-size-eq0.true (still_plain a.page a.key a.img.now a.words.now r.result r.ensures
+    (eqb-false (number r.result) 8 (sym f ∙ c.if-eq.false)))

@@ -28,5 +28,6 @@ returns c =
     let w = c.in-Some.ensures.cases in
     let t = c.in-Some-fetch_still in
     let S = rw w.same at t.ensures in
-    rw w.same (still_told a.page a.size a.key a.img.now a.cache.now a.out.now w.long c.in-Some-as_mut_array.ensures.cases.long
-    t.a S c.number.result c.put_out.new.out c.number.ensures c.put_out.ensures)
+    rw w.same (still_told a.page a.size a.key a.img.now a.cache.now a.out.now w.long
+    c.in-Some-as_mut_array.ensures.cases.long t.a S c.number.result c.put_out.new.out c.number.ensures
+    c.put_out.ensures)

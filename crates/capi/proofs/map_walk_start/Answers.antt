@@ -35,7 +35,8 @@ pub finish-requires : goal.finish-requires
 finish-requires c =
     let a = c.args in
     let r = c.fetch_all_items-s in
-    told-fits a.page a.size fetch_all_items (lent_of a.img.now c.cache_of.result) (started_of r.new.img r.result) r.ensures
+    told-fits a.page a.size fetch_all_items (lent_of a.img.now c.cache_of.result) (started_of r.new.img r.result)
+    r.ensures
 
 pub returns : goal.returns
 returns c =
@@ -47,5 +48,5 @@ returns c =
     let k = rw v.same at c.keep_cursor.ensures in
     let f = c.finish in
     start_told a.page a.size a.img.now a.cache.now a.cursor.now a.out.now w.long v.long
-    c.in-Some-as_mut_array-2.ensures.cases.long c.cache_of.result held r.new.img r.result r.ensures c.keep_cursor.new.words k
-    f.result f.new.cache f.new.out f.ensures
+    c.in-Some-as_mut_array-2.ensures.cases.long c.cache_of.result held r.new.img r.result r.ensures
+    c.keep_cursor.new.words k f.result f.new.cache f.new.out f.ensures

@@ -41,5 +41,6 @@ returns c =
     let at = rw w.same at c.cursor_of.ensures in
     let k = rw w.same at c.keep_cursor.ensures in
     let r = c.next_item-s in
-    step_told a.page a.img.now a.cursor.now a.out.now w.long c.in-Some-as_mut_array.ensures.cases.long c.cursor_of.result
-    at.0 r.result r.ensures c.keep_cursor.new.words k c.number.result _ c.number.ensures c.put_out.ensures
+    step_told a.page a.img.now a.cursor.now a.out.now w.long c.in-Some-as_mut_array.ensures.cases.long
+    c.cursor_of.result at.0 r.result r.ensures c.keep_cursor.new.words k c.number.result _ c.number.ensures
+    c.put_out.ensures

@@ -7,7 +7,8 @@ loop-b-preserved c =
     let l = c.loop-b in
     record {
       small = c.mix-h.ensures.1;
-      rest = rw (c.mix-h.ensures.0, c.from.ensures) (sym (digest_step l.h c.args.s.now l.b-index (omega arith)) ∙ l.invariant.rest);
+      rest = rw (c.mix-h.ensures.0, c.from.ensures)
+          (sym (digest_step l.h c.args.s.now l.b-index (omega arith)) ∙ l.invariant.rest);
     }
 
 pub returns : goal.returns

@@ -21,5 +21,6 @@ loop-key-preserved c =
 pub returns : goal.returns
 returns c =
     let i = c.loop-key.key-iterator in
-    sym (entries_end c.loop-key.h i.a.rest.now i.b.rest.now (⊎_elim (λ e. inl e.1.0) (λ e. inr e.1.0) c.in-None.ensures.steps))
+    sym (entries_end c.loop-key.h i.a.rest.now i.b.rest.now
+    (⊎_elim (λ e. inl e.1.0) (λ e. inr e.1.0) c.in-None.ensures.steps))
     ∙ c.loop-key.invariant.rest

@@ -5,7 +5,9 @@ use Rattle.std.proofs.Common.{◌≡◌, ◌<◌}
 use Rattle.lists.proofs.digest.of_cache.Given as goal
 
 abbrev pub invariant-loop-key : goal.invariant-loop-key
-invariant-loop-key l = record {
-  small : l.h < 4294967291;
-  rest : digest_entries l.h (entries l.key-iterator.a.rest.now l.key-iterator.b.rest.now) ≡ digest_entries 1 (pointers 32 l.fn.cache);
-}
+invariant-loop-key l =
+    record {
+      small : l.h < 4294967291;
+      rest : digest_entries l.h (entries l.key-iterator.a.rest.now l.key-iterator.b.rest.now)
+          ≡ digest_entries 1 (pointers 32 l.fn.cache);
+    }

@@ -5,7 +5,8 @@ use Rattle.lists.proofs.value.Rule.fill.Goals as goal
 pub loop-x-preserved : goal.loop-x-preserved
 loop-x-preserved c =
     let l = c.loop-x in
-    simp length-set (value_step l.s (length l.s) l.x-index l.b c.args.self.step (omega arith) (omega arith) ∙ l.invariant)
+    simp length-set
+    (value_step l.s (length l.s) l.x-index l.b c.args.self.step (omega arith) (omega arith) ∙ l.invariant)
 
 pub returns : goal.returns
 returns c =
