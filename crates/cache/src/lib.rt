@@ -50,8 +50,7 @@ impl Cache {
         requires { (size ≤ 32) × (i < size) × (i ≡ index key (pointers size self.old)) }
         ensures { NotedOk size key place self.old self.new }
     {
-        to_front(&mut self.keys, i, key);
-        to_front(&mut self.places, i, place);
+        renew(&mut self.keys, &mut self.places, size, i, key, place);
     }
 
     // The key with this place at the front: its old entry is gone, or else the last.
@@ -97,6 +96,24 @@ pub fn index_of(keys: &[u32], places: &[u32], key: u32) -> Option<usize>
     keys.iter()
         .zip(places)
         .position(|(k, place)| *k == key && *place != 0)
+}
+
+// The same for keys and places that are lent apart.
+pub fn renew(
+    keys: &mut [u32; 32],
+    places: &mut [u32; 32],
+    size: usize,
+    i: usize,
+    key: u32,
+    place: u32,
+)
+    requires { (size ≤ 32) × (i < size)
+        × (i ≡ index key (pointers size (record { keys = keys.old; places = places.old }))) }
+    ensures { NotedOk size key place (record { keys = keys.old; places = places.old })
+        (record { keys = keys.new; places = places.new }) }
+{
+    to_front(keys, i, key);
+    to_front(places, i, place);
 }
 
 // x at the front, and the elements before j one further: the one at j is gone.

@@ -21,10 +21,13 @@ const WRONG_LENGTH: u32 = 255;
 fn cache_of(words: &[u32; 64]) -> Cache
     ensures { pointers 32 result ≡ entries_of words.now }
 {
-    let mut cache = Cache::new();
-    cache.keys.copy_from_slice(&words[..32]);
-    cache.places.copy_from_slice(&words[32..]);
-    cache
+    match (words.first_chunk(), words.last_chunk()) {
+        (Some(keys), Some(places)) => Cache {
+            keys: *keys,
+            places: *places,
+        },
+        _ => Cache::new(),
+    }
 }
 
 // The cache back into its 64 words.

@@ -2,13 +2,20 @@
 use Rattle.std.specs.Prelude.{◌≡◌, ℕ, ◌+◌, ◌≤◌}
 use Rattle.rules.specs.declared.{Answer.Answer}
 use Rattle.rules.specs.Runs.{St, Out, out}
+use Rattle.cache.specs.declared.Cache.{Cache}
 use Rattle.cache.specs.Code.{pointers, Past}
+use Rattle.ring.specs.declared.Pages.{Pages}
 use Rattle.ring.specs.Flash.{IsSame, Erased, Ran}
+use Rattle.fetch.specs.declared.storage.Slots.{Slots}
 use Rattle.fetch.specs.declared.storage.Storage.{Storage}
 
 -- what a call works on
 abbrev pub st_of : Storage → St
 st_of s = record { img = s.flash.now.img.now; cache = pointers s.slots.count s.cache; erased = s.erased }
+
+-- what a fetch works on: pages and a cache, and any count of erased pages
+abbrev pub read_on : Pages → Slots → Cache → ℕ → St
+read_on p k c n = record { img = p.img.now; cache = pointers k.count c; erased = n }
 
 -- the storage is the same one, and entries past those in use stay
 pub record Keeps (old new : Storage) : Type 0 where

@@ -1,5 +1,5 @@
 // The storage of a call, and the fetch inside a call.
-ghost use Rattle.std.specs.Prelude.{◌≡◌, ◌+◌, ◌^◌, ◌≤◌, ◌<◌, IfOk, length};
+ghost use Rattle.std.specs.Prelude.{◌≡◌, ◌+◌, ◌^◌, ◌≤◌, ◌<◌, Some, Ok, IfOk, length};
 
 use cache::Cache;
 use items::{Corrupt, Spot};
@@ -23,7 +23,7 @@ pub struct Storage<'a, 'b> {
 
 impl Storage<'_, '_> {
     ghost use Rattle.rules.specs.Runs.{noting, cleared};
-    ghost use Rattle.rules.specs.Fetch.{full_fetch, fetch_in};
+    ghost use Rattle.rules.specs.Fetch.{fetch_in, hit};
     ghost use Rattle.items.specs.Code.{told, SpotIn};
     ghost use Rattle.ring.specs.Flash.{Erased};
     ghost use Rattle.fetch.specs.Code.{st_of, KeepsImage, ErasesPage};
@@ -51,34 +51,32 @@ impl Storage<'_, '_> {
         self.erased += 1;
     }
 
-    // The search, its find noted.
-    fn full_fetch(&mut self, key: u32) -> Result<Option<Spot>, Corrupt>
-        ensures found { result ≡ told (full_fetch self.old.flash.now.geo key (st_of self.old)).res }
-        ensures state { st_of self.new ≡ (full_fetch self.old.flash.now.geo key (st_of self.old)).st }
-        ensures within { IfOk result (SpotIn (length self.old.flash.now.img.now)) }
-        ensures kept { KeepsImage self.old self.new }
-    {
-        let found = search::newest(&self.flash.pages(), key)?;
-        if let Some(spot) = found {
-            self.note(key, spot.at as u32);
-        }
-        Ok(found)
-    }
-
-    // The fetch inside a call: anything but a Present item with this key at the cached place empties the cache and searches.
+    // The fetch inside a call.
     pub fn fetch(&mut self, key: u32) -> Result<Option<Spot>, Corrupt>
         ensures found { result ≡ told (fetch_in self.old.flash.now.geo key (st_of self.old)).res }
         ensures state { st_of self.new ≡ (fetch_in self.old.flash.now.geo key (st_of self.old)).st }
         ensures within { IfOk result (SpotIn (length self.old.flash.now.img.now)) }
         ensures kept { KeepsImage self.old self.new }
     {
-        let Some(place) = self.cache.find(self.slots.count, key) else {
-            return self.full_fetch(key);
-        };
-        let Some(spot) = search::hit(&self.flash.pages(), key, place as usize) else {
-            self.empty();
-            return self.full_fetch(key);
-        };
-        Ok(Some(spot))
+        crate::fetch_in(&self.flash.pages(), &mut self.cache, self.slots, key)
+    }
+
+    // The same for a Present item with the key: where the cache has it at its own place, it needs no second look.
+    pub fn fetch_own(&mut self, key: u32, own: Spot) -> Result<Option<Spot>, Corrupt>
+        requires { Ok (Some own) ≡ told (hit self.old.flash.now.geo self.old.flash.now.img.now key own.at) }
+        ensures found { result ≡ told (fetch_in self.old.flash.now.geo key (st_of self.old)).res }
+        ensures state { st_of self.new ≡ (fetch_in self.old.flash.now.geo key (st_of self.old)).st }
+        ensures kept { KeepsImage self.old self.new }
+    {
+        match self.cache.find(self.slots.count, key) {
+            Some(place) if place as usize == own.at => Ok(Some(own)),
+            cached => crate::fetch_at(
+                &self.flash.pages(),
+                &mut self.cache,
+                self.slots,
+                key,
+                cached,
+            ),
+        }
     }
 }

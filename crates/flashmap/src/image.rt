@@ -157,6 +157,13 @@ pub struct Versions<'a> {
     left: usize,
 }
 
+impl Versions<'_> {
+    /// How many items it has at most: each takes twelve bytes, and more with a value.
+    pub fn most(&self) -> usize {
+        self.bytes.len() / 12
+    }
+}
+
 impl<'a> Iterator for Versions<'a> {
     type Item = Version<'a>;
 

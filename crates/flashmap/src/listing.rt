@@ -1,8 +1,8 @@
 // The items of an image: the newest of a key, all versions in ring order, the newest of each key.
-use crate::image::Image;
+use crate::image::{Image, Versions};
 use shell::sheet::{Hex, Sheet};
 use shell::trouble::Trouble;
-use std::alloc::Global;
+use std::alloc::{AllocError, Global};
 use std::io::Write;
 use tool::last;
 
@@ -35,6 +35,15 @@ pub fn walk<W: Write + Drop>(image: &mut Image<'_>, out: &mut Sheet<W>) -> Resul
     Ok(())
 }
 
+// The keys of a walk, in room that need not grow.
+fn keys_of(alloc: Global, versions: Versions<'_>) -> Result<Vec<u32>, AllocError> {
+    let mut keys = Vec::with_capacity(alloc, versions.most())?;
+    for version in versions {
+        keys.push(version.key)?;
+    }
+    Ok(keys)
+}
+
 /// The newest value of each key, in the order in which the walk lists them.
 pub fn list<W: Write + Drop>(
     alloc: Global,
@@ -44,7 +53,7 @@ pub fn list<W: Write + Drop>(
     let start = image.start()?;
     let versions = image.versions(start);
     let sound = image.is_sound();
-    let keys: Vec<u32> = versions.map(|version| version.key).collect(alloc)?;
+    let keys = keys_of(alloc, versions)?;
     let lasts = last::lasts(alloc, &keys)?;
     out.put_line("       key  bytes  value");
     for (version, last) in versions.zip(lasts) {

@@ -70,9 +70,8 @@ fn run_command(rt: &HostRuntime, words: &[&[u8]]) {
 fn run_script(rt: &HostRuntime, path: &[u8]) -> Result<(), Trouble> {
     let script = file::load(rt, path, SCRIPT_BYTES)?;
     let mut out = Sheet::new(rt.alloc(), rt.stdout());
-    let played = script::play(rt, &script, &mut out);
+    let failed = script::play(rt, &script, &mut out);
     finish(rt, &mut out);
-    let failed = played?;
     if failed > 0 {
         let _ = eprintln!(rt;
             "flashmap: failed commands of the script: {failed}; its output says which and why"

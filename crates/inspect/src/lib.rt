@@ -36,12 +36,15 @@ pub struct Tally {
     pub free: usize,
 }
 
-// The first place from a up to e whose byte is not 0xFF.
+// The first place from a up to e whose byte is not 0xFF. Blank bytes are looked at eight together.
 fn first_not_ff(img: &[u8], a: usize, e: usize) -> Option<usize>
     requires { (a ≤ e) × (e ≤ length img.now) }
     ensures { MatchOption result (all_ff (part img.now a e) ≡ true)
         (λ at. (all_ff (part img.now a e) ≡ false) × (at ≡ not_ff a (part img.now a e))) }
 {
+    if words::all_ff(&img[a..e]) {
+        return None;
+    }
     let passed = img[a..e].iter().position(|&byte| byte != 255)?;
     Some(a + passed)
 }

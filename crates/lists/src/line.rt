@@ -1,18 +1,18 @@
 // A line of a list: a letter, then numbers, each after one space. It is read byte by byte.
 ghost use Rattle.std.specs.Prelude.{◌≡◌};
 
-use arrayvec::ArrayVec;
-
-// A call as far as its line is read: its letter, its numbers, and whether a digit is due, as after a space.
-#[derive(Drop)]
+// A call as far as its line is read: its letter, how many numbers it has, these first of eight, and whether a digit is
+// due, as after a space. An array and a count: a list of the library is not copied as a line is.
+#[derive(Clone, Copy)]
 pub struct Call {
     pub letter: u8,
-    pub numbers: ArrayVec<u32, 8>,
+    pub count: usize,
+    pub numbers: [u32; 8],
     pub due: bool,
 }
 
 // A line as far as it is read.
-#[derive(Default, Drop)]
+#[derive(Clone, Copy, Default)]
 pub enum Line {
     #[default]
     Blank, // nothing is read yet
@@ -30,7 +30,8 @@ impl Call {
     {
         Call {
             letter,
-            numbers: ArrayVec::new(),
+            count: 0,
+            numbers: [0; 8],
             due: false,
         }
     }
@@ -39,10 +40,10 @@ impl Call {
     fn begin(mut self) -> Option<Call>
         ensures { result ≡ begun self }
     {
-        if self.due {
+        if self.due || 8 <= self.count {
             return None;
         }
-        self.numbers.try_push(0).ok()?;
+        self.count += 1;
         self.due = true;
         Some(self)
     }
@@ -51,9 +52,11 @@ impl Call {
     fn grow(mut self, digit: u32) -> Option<Call>
         ensures { result ≡ grown self digit }
     {
-        let number = self.numbers.pop()?;
-        self.numbers
-            .push(number.checked_mul(10)?.checked_add(digit)?);
+        if self.count == 0 || 8 < self.count {
+            return None;
+        }
+        let last = self.count - 1;
+        self.numbers[last] = self.numbers[last].checked_mul(10)?.checked_add(digit)?;
         self.due = false;
         Some(self)
     }

@@ -1,7 +1,7 @@
 -- The steps of a migration, as the code tells them.
 use mathlib.Core.Path.{◌≡◌, refl, ap, sym, ◌∙◌}
 use mathlib.Core.Logic.{◌⊎◌, ⊎_elim, inl, inr}
-use Prim.Native.Nat.{ℕ, ◌+◌, ◌-◌, ◌*◌, ◌≤◌, ◌<◌}
+use Prim.Native.Nat.{ℕ, suc, ◌+◌, ◌-◌, ◌*◌, ◌≤◌, ◌<◌}
 use native.Mathlib.Omega.{arith}
 use mathlib.Core.Bool.{false, true, Bool}
 use mathlib.Core.List.{List, ◌∷◌, ◌++◌}
@@ -11,15 +11,16 @@ use borrow.Author.Tests.{ne_eqb, eq-eqb}
 use Rattle.std.specs.Prelude.{Option, Some, Result, Ok, Err, IfOk, IsErr}
 use Rattle.rules.specs.declared.{Geo.Geo, Answer.TheVariants.Done, Answer.TheVariants.Corrupted}
 use Rattle.rules.specs.Bytes.{pick, all_ff}
-use Rattle.rules.specs.Items.{is_present, Entry, size, pad, presents, Scan, scan, read}
+use Rattle.rules.specs.Items.{is_present, item_of, Entry, size, pad, presents, Scan, scan, read}
 use Rattle.rules.specs.Pages.{blank_at, data_at, end_at, items_of}
 use Rattle.rules.specs.Answers.{is_no}
 use Rattle.rules.specs.Runs.{St, Out, out, noting, erasing}
-use Rattle.rules.specs.Fetch.{Found, corrupt, missing, found, fetch_in}
+use Rattle.rules.specs.Fetch.{Found, corrupt, missing, found, hit_item, hit, fetch_in}
 use Rattle.rules.specs.Store.{migrate_one, migrate_all, migrate}
 use Rattle.rules.specs.Held.{Held}
 use Rattle.laws.specs.Geometry.{page_in}
 use Rattle.laws.specs.Encoding.{length-pad}
+use Rattle.laws.specs.Entries.{size_words, hit_at}
 use Rattle.laws.specs.Reading.{le_size}
 use Rattle.laws.specs.Power.{Wrote, wrote_window}
 use Rattle.laws.specs.Through.{thr_refl, thr_from, thr_to, thr_then, thr_program, thr_erase, thr_on}
@@ -33,7 +34,7 @@ use Rattle.ring.proofs.Laws.{scan_is}
 use Rattle.fetch.specs.declared.storage.Storage.{Storage}
 use Rattle.fetch.specs.Code.{st_of, Keeps, KeepsImage, ErasesPage, RunOk}
 use Rattle.fetch.proofs.Laws.{keeps_refl, keeps_trans, same_trans}
-use Rattle.migrate.specs.Code.{entry_at, go_on, copied, one_of, step_of, StepOk, run_of, AllOk, ended}
+use Rattle.migrate.specs.Code.{entry_at, go_on, copied, one_of, step_of, StepOk, Lies, run_of, AllOk, ended}
 
 -- a run that changes no byte
 ran_still : (s t : Storage) → KeepsImage s t → (o o' : Out) → o ≡ o' → Ran s.flash.now t.flash.now o o'
@@ -206,6 +207,45 @@ near a e L wp w hw h d =
     let z = le_size w L hw in
     ⊎_elim (λ (y : wp + size w L ≤ a). inr y) (λ (y : e ≤ wp). inl (omega arith)) d
 
+-- ---- a page's first place, the place after what is read, and that an item on a word is a hit at its own place
+
+page_lies : (G : Geo) (len : ℕ) → Held G len → (q : ℕ) → q < G.pages → Lies G (data_at G q) (end_at G q)
+page_lies G len h q i =
+    record { page = q; off = 1; page_in = i; at_is = omega arith; low = omega arith; end_is = refl }
+
+lies_skip : (G : Geo) (a e : ℕ) → Lies G a e → Lies G (a + G.word) e
+lies_skip G a e y = record {
+  page = y.page;
+  off = suc y.off;
+  page_in = y.page_in;
+  at_is = omega (arith, y.at_is);
+  low = omega (arith, y.low);
+  end_is = y.end_is;
+}
+
+lies_item : (G : Geo) (len : ℕ) → Held G len → (a e : ℕ) → Lies G a e → (L : ℕ) → Lies G (a + size G.word L) e
+lies_item G len h a e y L =
+    let j = size_words G len h L in
+    let z = j.1 in
+    record {
+      page = y.page;
+      off = y.off + j.0;
+      page_in = y.page_in;
+      at_is = omega (arith, y.at_is);
+      low = omega (arith, y.low);
+      end_is = y.end_is;
+    }
+
+pub own_hit : (G : Geo) (img : List ℕ) → Held G (length img) → (a e L : ℕ) → Lies G a e → a ≤ e
+    → read_of (part img a e) (Item L) ≡ read G.word (part img a e)
+    → (key : ℕ) → key ≡ (item_of (part img a e) L).key → true ≡ is_present (item_of (part img a e) L).kind
+    → Ok (Some (record { at = a; len = L })) ≡ told (hit G img key a)
+own_hit G img h a e L y i hr key hk pr =
+    let z : hit G img key a ≡ hit_item key a (read G.word (part img a e)) =
+    hit_at G img h y.page y.page_in key a y.off y.at_is y.low (omega (arith, y.end_is))
+    ∙ ap (λ (u : ℕ). hit_item key a (read G.word (part img a u))) (sym y.end_is) in
+    rw (z, ← hr, ← pr, eq-eqb (item_of (part img a e) L).key key (sym hk)) refl
+
 -- ---- the run over an area
 
 all_step : (G : Geo) (x : Entry) (es : List Entry) (wp : ℕ) (s : St)
@@ -245,16 +285,18 @@ pub record Reached (a e to : ℕ) (old : Storage) (at next : ℕ) (new : Storage
   pub high : at ≤ e
   pub grown : to ≤ next
   pub room : next + (e - at) ≤ to + (e - a)
+  pub lies : Lies old.flash.now.geo at e
   pub run : Ran old.flash.now new.flash.now (run_of old.flash.now.geo a e to (st_of old)) (run_of old.flash.now.geo at e next (st_of new))
   pub keeps : Keeps old new
   pub erased : new.erased ≡ old.erased
 
-pub reached_refl : (a e to : ℕ) (s : Storage) → a ≤ e → Reached a e to s a to s
-reached_refl a e to s h = record {
+pub reached_refl : (a e to : ℕ) (s : Storage) → Lies s.flash.now.geo a e → a ≤ e → Reached a e to s a to s
+reached_refl a e to s y h = record {
   low = omega arith;
   high = h;
   grown = omega arith;
   room = omega arith;
+  lies = y;
   run = thr_refl s.flash.now.geo (run_of s.flash.now.geo a e to (st_of s)) s.flash.now.img.now s.flash.now.power;
   keeps = keeps_refl s;
   erased = refl;
@@ -277,6 +319,7 @@ module _ (a e to : ℕ) (old : Storage) (at next : ℕ) (now : Storage) (I : Rea
     high = h;
     grown = I.grown;
     room = omega (arith, I.room);
+    lies = lies_skip old.flash.now.geo at e I.lies;
     run = thr_to old.flash.now.geo I.run q;
     keeps = I.keeps;
     erased = I.erased;
@@ -323,6 +366,7 @@ module _ (a e to : ℕ) (old : Storage) (at next : ℕ) (now : Storage) (I : Rea
           high = h;
           grown = omega (arith, I.grown, w''.0);
           room = omega (arith, I.room, w''.1);
+          lies = lies_item old.flash.now.geo (length old.flash.now.img.now) old.flash.now.held at e I.lies L;
           run = thr_to old.flash.now.geo one_step (ap (λ (x : Result ℕ Corrupt). go_on x (st_of new) later) o
               ∙ sym (ap (λ (x : List ℕ). migrate_all old.flash.now.geo (presents (scan old.flash.now.geo.word (e - b) b x).items) n
               (st_of new)) rest));
@@ -341,13 +385,13 @@ pages_apart E w src tgt h d =
 -- the source's area lies in the image, and apart from the target's
 pub areas : (G : Geo) (len : ℕ) → Held G len → (src tgt : ℕ) → src < G.pages → tgt < G.pages
     → ((src < tgt) ⊎ (tgt < src))
-    → (data_at G src ≤ end_at G src) × (end_at G src ≤ len) × (data_at G tgt + (end_at G src - data_at G src) ≤ len)
+    → Lies G (data_at G src) (end_at G src) × (data_at G src ≤ end_at G src) × (end_at G src ≤ len) × (data_at G tgt + (end_at G src - data_at G src) ≤ len)
     × ((data_at G tgt + (end_at G src - data_at G src) ≤ data_at G src) ⊎ (end_at G src ≤ data_at G tgt))
 areas G len h src tgt i j d =
     let room : 2 * G.word ≤ G.page = omega (arith, h.room) in
     let s = page_in G.page src G.pages i in
     let t = page_in G.page tgt G.pages j in
-    (omega arith, omega (arith, h.whole), omega (arith, h.whole), pages_apart G.page G.word src tgt room d)
+    (page_lies G len h src i, omega arith, omega (arith, h.whole), omega (arith, h.whole), pages_apart G.page G.word src tgt room d)
 
 bad_end : (r : Result (Unit {0}) Corrupt) → IsErr r → ended r ≡ Corrupted
 bad_end (Ok u) h = cc

@@ -1,9 +1,9 @@
 -- What the migration's code says of its steps.
-use Rattle.std.specs.Prelude.{◌≡◌, ◌⊎◌, ℕ, ◌+◌, ◌≤◌, List, ◌++◌, take, drop, Result, Ok, Err, IfOk}
+use Rattle.std.specs.Prelude.{◌≡◌, ◌⊎◌, ℕ, ◌+◌, ◌*◌, ◌≤◌, ◌<◌, List, ◌++◌, take, drop, Result, Ok, Err, IfOk}
 use Rattle.rules.specs.declared.{Geo.Geo, Answer.Answer, Answer.TheVariants.Done, Answer.TheVariants.Corrupted}
 use Rattle.rules.specs.Bytes.{pick}
 use Rattle.rules.specs.Items.{is_present, item_of, Entry, size, pad, presents}
-use Rattle.rules.specs.Pages.{blank_at}
+use Rattle.rules.specs.Pages.{blank_at, end_at}
 use Rattle.rules.specs.Runs.{St, Out, out, programming, noting}
 use Rattle.rules.specs.Fetch.{fetch_in}
 use Rattle.rules.specs.Store.{migrate_one, migrate_all}
@@ -44,6 +44,15 @@ pub record StepOk (f : St → (ℕ → St → Out) → Out) (wp z : ℕ) (old ne
   pub others : (a m : ℕ) → (a + m ≤ wp) ⊎ (wp + z ≤ a)
       → take m (drop a new.flash.now.img.now) ≡ take m (drop a old.flash.now.img.now)
   pub next : IfOk r (λ t. (wp ≤ t) × (t ≤ wp + z))
+
+-- a place on a word of the data area that ends at e
+pub record Lies (G : Geo) (a e : ℕ) : Type 0 where
+  pub page : ℕ
+  pub off : ℕ
+  pub page_in : page < G.pages
+  pub at_is : a ≡ page * G.page + off * G.word
+  pub low : G.word ≤ off * G.word
+  pub end_is : e ≡ end_at G page
 
 -- a run's answer by how it ends
 abbrev pub ended : Result (Unit {0}) Corrupt → Answer

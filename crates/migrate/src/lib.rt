@@ -1,16 +1,16 @@
 // Migration: the newest items of a page are copied to another, and the page is erased.
 #![tactic(auto)]
 
-ghost use Rattle.std.specs.Prelude.{◌⊎◌, ◌+◌, ◌-◌, ◌^◌, ◌≤◌, ◌<◌, length};
+ghost use Rattle.std.specs.Prelude.{◌≡◌, ◌⊎◌, ◌+◌, ◌-◌, ◌^◌, ◌≤◌, ◌<◌, length};
 ghost use Rattle.rules.specs.Items.{read, size};
 ghost use Rattle.rules.specs.Store.{migrate};
 ghost use Rattle.items.specs.declared.{Read.TheVariants.Item};
-ghost use Rattle.items.specs.Code.{part};
+ghost use Rattle.items.specs.Code.{part, read_of};
 ghost use Rattle.fetch.specs.Code.{RunOk};
-ghost use Rattle.migrate.specs.Code.{StepOk, copied, step_of, entry_at, AllOk, ended};
+ghost use Rattle.migrate.specs.Code.{StepOk, copied, step_of, entry_at, Lies, AllOk, ended};
 
 use fetch::storage::Storage;
-use items::{Corrupt, Read};
+use items::{Corrupt, Read, Spot};
 
 // The item at `at` is noted at `to` and copied there, if all bytes that the copy takes are blank: the place after it.
 fn copy_one(
@@ -44,7 +44,10 @@ fn migrate_one(
     len: usize,
     to: usize,
 ) -> Result<usize, Corrupt>
-    requires { (len < 65536) × (at + size storage.old.flash.now.geo.word len ≤ e) × (e ≤ length storage.old.flash.now.img.now)
+    requires { (len < 65536) × Lies storage.old.flash.now.geo at e
+        × (read_of (part storage.old.flash.now.img.now at e) (Item len)
+        ≡ read storage.old.flash.now.geo.word (part storage.old.flash.now.img.now at e))
+        × (at + size storage.old.flash.now.geo.word len ≤ e) × (e ≤ length storage.old.flash.now.img.now)
         × (to + size storage.old.flash.now.geo.word len ≤ length storage.old.flash.now.img.now)
         × ((to + size storage.old.flash.now.geo.word len ≤ at) ⊎ (e ≤ to)) }
     ensures { StepOk (step_of storage.old.flash.now.geo (entry_at storage.old.flash.now.img.now at e len) to) to
@@ -55,7 +58,7 @@ fn migrate_one(
         return Ok(to);
     }
     let key = items::key(item, len);
-    let Some(newest) = storage.fetch(key)? else {
+    let Some(newest) = storage.fetch_own(key, Spot { at, len })? else {
         return Err(Corrupt);
     };
     if newest.at != at {
@@ -67,7 +70,7 @@ fn migrate_one(
 // The items from a place of the source to its end, in order. No iterator: the image is written between two readings,
 // and each says where the next one stands.
 fn migrate_all(storage: &mut Storage<'_, '_>, a: usize, e: usize, to: usize) -> Result<(), Corrupt>
-    requires { (a ≤ e) × (e ≤ length storage.old.flash.now.img.now) × (to + (e - a) ≤ length storage.old.flash.now.img.now)
+    requires { Lies storage.old.flash.now.geo a e × (a ≤ e) × (e ≤ length storage.old.flash.now.img.now) × (to + (e - a) ≤ length storage.old.flash.now.img.now)
         × ((to + (e - a) ≤ a) ⊎ (e ≤ to)) }
     ensures { AllOk a e to storage.old storage.new result }
 {

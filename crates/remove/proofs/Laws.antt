@@ -12,7 +12,7 @@ use Rattle.rules.specs.Bytes.{pick, both}
 use Rattle.rules.specs.Items.{item_of, is_present, Entry, size, presents, Scan, scan, read}
 use Rattle.rules.specs.Pages.{same, state, data_at, end_at, next, up_from, ring_up}
 use Rattle.rules.specs.Cache.{Cache}
-use Rattle.rules.specs.Runs.{St, Out, out, programming, erasing, cleared}
+use Rattle.rules.specs.Runs.{St, Out, out, programming, cleared}
 use Rattle.rules.specs.Remove.{Which as Wanted, every, only, matches, forgetting, remove_entries, remove_pages}
 use Rattle.rules.specs.Remove.{remove_start, run_remove, erase_pages, erase_all}
 use Rattle.laws.specs.Reading.{le_size}
@@ -24,12 +24,13 @@ use Rattle.items.specs.Code.{part, scan_in, read_of, Stays}
 use Rattle.items.proofs.Laws.{in_none, by_end, by_skip, by_item}
 use Rattle.ring.specs.declared.flash.Flash.{Flash}
 use Rattle.ring.specs.Flash.{IsSame, Programmed, Ran}
+use Rattle.ring.specs.Erased.{erase_from, ErasedAll}
 use Rattle.ring.specs.Code.{ups}
 use Rattle.ring.proofs.Laws.{scan_is}
 use Rattle.ring.proofs.Around.{up_is}
 use Rattle.fetch.specs.declared.storage.Storage.{Storage}
-use Rattle.fetch.specs.Code.{st_of, KeepsImage, ErasesPage, Came, RunOk}
-use Rattle.fetch.proofs.Runs.{came_refl, came_then, came_more, came_from, came_to, came_still, came_erase}
+use Rattle.fetch.specs.Code.{st_of, KeepsImage, Came, RunOk}
+use Rattle.fetch.proofs.Runs.{came_then, came_more, came_from, came_still}
 use Rattle.fetch.proofs.Laws.{same_refl, same_trans, past_refl}
 use Rattle.remove.specs.Code.{hits, st_with, entries_of, RemovedOk, EntriesOk, PageOk, PagesOk}
 
@@ -244,44 +245,24 @@ removed t from s₀ s s' F K hf R hl hc hn he =
 
 -- ---- erase all
 
--- the pages from q up are left
-abbrev pub erase_from : Geo → ℕ → St → Out
-erase_from G q s = erase_pages G (up_from q (G.pages - q)) s
-
--- the run over all pages has come to those from q up
-abbrev pub ErasedTo : ℕ → Storage → Storage → Type 0
-ErasedTo q old new = Came q old new (erase_from old.flash.now.geo 0 (st_of old)) (erase_from old.flash.now.geo q (st_of new))
-
-pub erased_none : (s : Storage) → ErasedTo 0 s s
-erased_none s = came_refl s _
-
-pub erased_more : (q : ℕ) (s₀ s s' : Storage) → q < s₀.flash.now.geo.pages → ErasedTo q s₀ s → ErasesPage s s' q
-    → ErasedTo (q + 1) s₀ s'
-unfolding erase_pages
-erased_more q s₀ s s' h P E =
-    let G = s₀.flash.now.geo in
-    let left : ℕ = G.pages - (q + 1) in
-    let rest = erase_pages G (up_from (suc q) left) in
-    let z : G.pages - q ≡ suc left = omega arith in
-    let y : suc q ≡ q + 1 = omega arith in
-    came_then P
-    (came_from (ap (λ (j : ℕ). erase_pages G (up_from q j) (st_of s)) z
-    ∙ ap (λ (g : Geo). erasing g q (st_of s) rest) (sym P.keeps.same.geo))
-    (came_to (came_erase q rest s s' E) (ap (λ (j : ℕ). erase_pages G (up_from j left) (st_of s')) y)))
-
-erase-none : (G : Geo) (q : ℕ) (s : St) → G.pages ≤ q → erase_from G q s ≡ out Done s
-unfolding erase_pages
-erase-none G q s h = let z : G.pages - q ≡ 0 = omega arith in rw z
-
-pub erased_all : (s₀ s s' : Storage) (q : ℕ) → st_of s ≡ cleared (st_of s₀) → KeepsImage s₀ s
-    → s.flash.now.geo.pages ≤ q → q ≤ s.flash.now.geo.pages → ErasedTo q s s'
+-- all pages are erased and counted, the cache emptied before
+pub erased_all : (s₀ s s' : Storage) → st_of s ≡ cleared (st_of s₀) → KeepsImage s₀ s → IsSame s.flash.now s'.flash.now
+    → ErasedAll s.flash.now.geo s.flash.now.img.now s.flash.now.power s'.flash.now.img.now s'.flash.now.power
+    → s'.flash.ghost_name ≡ s.flash.ghost_name → s'.slots ≡ s.slots → s'.cache ≡ s.cache
+    → s'.erased ≡ s.erased + s.flash.now.geo.pages
     → RunOk s₀.flash.now.geo.pages (erase_all s₀.flash.now.geo) s₀ s' Done
 unfolding erase_all
-erased_all s₀ s s' q F K h₁ h₂ P =
+erased_all s₀ s s' F K S E lent slots cache erased =
     let G = s₀.flash.now.geo in
-    let hg : s.flash.now.geo.pages ≡ G.pages = rw K.keeps.same.geo in
+    let g = s.flash.now.geo in
+    let hg : g.pages ≡ G.pages = rw K.keeps.same.geo in
+    let run : Came g.pages s s' (erase_from g 0 (st_of s)) (out Done (st_of s')) = record {
+      is = thr_to g (E (st_of s).cache s.erased) (ap (out Done) (rw (slots, cache, erased) refl));
+      keeps = record { lent = lent; same = S; slots = slots; past = rw cache (past_refl s.slots.count s.cache) };
+      erased = omega (arith, erased);
+    } in
     came_more (omega arith)
     (came_from (ap (λ (x : St). erase_pages G (up_from 0 G.pages) x) (sym F)
     ∙ ap (λ (m : ℕ). erase_pages G (up_from 0 m) (st_of s)) (sym (sub-zero G.pages))
-    ∙ ap (λ (g : Geo). erase_from g 0 (st_of s)) (sym K.keeps.same.geo))
-    (came_then (came_still s₀ s _ K) (came_to P (erase-none s.flash.now.geo q (st_of s') h₁))))
+    ∙ ap (λ (x : Geo). erase_from x 0 (st_of s)) (sym K.keeps.same.geo))
+    (came_then (came_still s₀ s _ K) run))

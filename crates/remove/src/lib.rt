@@ -133,8 +133,7 @@ pub fn erase_all(storage: &mut Storage<'_, '_>) -> Answer
     ensures run { RunOk storage.old.flash.now.geo.pages (erase_all storage.old.flash.now.geo) storage.old storage.new result }
 {
     storage.empty();
-    for p in 0..storage.flash.geo.pages {
-        storage.erase_page(p);
-    }
+    storage.flash.erase_all();
+    storage.erased += storage.flash.geo.pages;
     Answer::Done
 }

@@ -10,7 +10,6 @@ use score::Score;
 use std::env::FillError;
 use std::fs::File;
 use std::io::Read;
-use std::mem;
 use std::rt::{Env, Files};
 
 // A list as far as it is replayed, and the room for its images and values.
@@ -47,8 +46,7 @@ impl<'a> Replay<'a> {
     }
 
     // A line's end: its turn, unless a line before it couldn't be read, and the score.
-    fn end_line(&mut self, rt: &impl Print) {
-        let line = mem::take(&mut self.line);
+    fn end_line(&mut self, rt: &impl Print, line: Line) {
         if self.score.is_bad() {
             return;
         }
@@ -59,16 +57,19 @@ impl<'a> Replay<'a> {
         }
     }
 
-    // A piece of the list.
+    // A piece of the list. The line is taken out while its bytes are read: in place each byte would cost three times as
+    // much. A comment's bytes change nothing.
     fn read(&mut self, rt: &impl Print, bytes: &[u8]) {
+        let mut line = self.line;
         for b in bytes {
             if *b == b'\n' {
-                self.end_line(rt);
-            } else {
-                let line = mem::take(&mut self.line);
-                self.line = line.read_byte(*b);
+                self.end_line(rt, line);
+                line = Line::Blank;
+            } else if !matches!(line, Line::Comment) {
+                line = line.read_byte(*b);
             }
         }
+        self.line = line;
     }
 
     // Reads once, and takes what came: whether there may be more. A read that fails ends the list.

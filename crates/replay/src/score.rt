@@ -40,8 +40,8 @@ impl Score {
 
     // The list's end, which names the number of calls.
     pub fn end(&mut self, line: &Call) {
-        match line.numbers.as_slice() {
-            [calls] if !line.due && u64::from(*calls) == self.calls => {
+        match line.numbers.get(..line.count) {
+            Some([calls]) if !line.due && u64::from(*calls) == self.calls => {
                 self.pass();
                 self.ended = true;
             }

@@ -117,7 +117,7 @@ fn end(img: &[u8], run: &mut Run, numbers: &[u32]) -> Option<bool> {
 
 // A call on the run's image.
 fn call(img: &mut [u8], space: &mut [u8], run: &mut Run, call: &Call) -> Option<bool> {
-    let numbers = call.numbers.as_slice();
+    let numbers = call.numbers.get(..call.count)?;
     match call.letter {
         b's' => store(img, space, run, numbers),
         b'f' => fetch(img, run, numbers),
@@ -137,7 +137,7 @@ pub fn take(img: &mut [u8], space: &mut [u8], run: &mut Run, line: &Call) -> Opt
         return None;
     }
     if line.letter == b'n' {
-        return begin(img, run, line.numbers.as_slice());
+        return begin(img, run, line.numbers.get(..line.count)?);
     }
     let len = run.len;
     call(img.get_mut(..len)?, space, run, line)

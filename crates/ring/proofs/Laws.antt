@@ -9,7 +9,11 @@ use lib.ListN.{take, drop, replicate}
 use Rattle.rules.specs.declared.{Geo.Geo, PageState.PageState, PageState.TheVariants.Corrupted}
 use Rattle.rules.specs.Bytes.{pick, splice, erase}
 use Rattle.rules.specs.Power.{lasts, spend}
+use Rattle.rules.specs.Cache.{Cache}
+use Rattle.rules.specs.Remove.{erase_pages}
 use Rattle.laws.specs.Power.{Blanked}
+use Rattle.laws.specs.Through.{Through, thr_refl, thr_then, thr_from, thr_to, thr_erase}
+use Rattle.ring.specs.Erased.{erase_from, st_beside, ErasedAll}
 use Rattle.rules.specs.Pages.{same, state_of, marked, state, first_with, up_from, scan_of, area_len, data_at, end_at}
 use Rattle.laws.specs.Lists.{up_from-snoc}
 use Rattle.items.specs.Code.{scan_in, SpotIn}
@@ -71,3 +75,39 @@ pub blanked_by : (G : Geo) (img img' : List ℕ) (p p' q b : ℕ) → b ≡ q * 
     → img' ≡ pick (lasts p 1) (splice img b (replicate G.page 255)) img → p' ≡ spend p 1 → Blanked G img p img' p' q
 unfolding erase
 blanked_by G img img' p p' q b hb h hp = record { is = rw hb at h; left = hp }
+
+-- ---- all pages erased
+
+-- the run over all pages has come to those from q up, whatever stands beside the image
+abbrev pub ErasedTo : Geo → ℕ → List ℕ → ℕ → List ℕ → ℕ → Type 0
+ErasedTo G q l p l' p' =
+    (c : Cache) (n : ℕ) → Through G (erase_from G 0 (st_beside l c n)) l p l' p' (erase_from G q (st_beside l' c (n + q)))
+
+pub erased_none : (G : Geo) (l : List ℕ) (p : ℕ) → ErasedTo G 0 l p l p
+erased_none G l p c n =
+    let z : n + 0 ≡ n = omega arith in
+    rw z (thr_refl G (erase_from G 0 (st_beside l c n)) l p)
+
+pub erased_more : (G : Geo) (q : ℕ) (l : List ℕ) (p : ℕ) (m m' : List ℕ) (p₁ p₂ : ℕ) → q < G.pages → ErasedTo G q l p m p₁
+    → Blanked G m p₁ m' p₂ q → ErasedTo G (q + 1) l p m' p₂
+unfolding erase_pages
+erased_more G q l p m m' p₁ p₂ h P B c n =
+    let left : ℕ = G.pages - (q + 1) in
+    let rest = erase_pages G (up_from (suc q) left) in
+    let z : G.pages - q ≡ suc left = omega arith in
+    let y : suc q ≡ q + 1 = omega arith in
+    let k : n + q + 1 ≡ n + (q + 1) = omega arith in
+    thr_then G (P c n)
+    (thr_from G (ap (λ (j : ℕ). erase_pages G (up_from q j) (st_beside m c (n + q))) z)
+    (thr_to G (thr_erase G q (st_beside m c (n + q)) rest m' p₁ p₂ B)
+    (ap (λ (j : ℕ). erase_pages G (up_from j left) (st_beside m' c (n + q + 1))) y
+    ∙ ap (λ (j : ℕ). erase_pages G (up_from (q + 1) left) (st_beside m' c j)) k)))
+
+pub erased_all : (G : Geo) (q : ℕ) (l : List ℕ) (p : ℕ) (l' : List ℕ) (p' : ℕ) → G.pages ≤ q → q ≤ G.pages
+    → ErasedTo G q l p l' p' → ErasedAll G l p l' p'
+unfolding erase_pages
+erased_all G q l p l' p' h h' P c n =
+    let e : q ≡ G.pages = omega arith in
+    let z : G.pages - G.pages ≡ 0 = omega arith in
+    let P' = rw e at (P c n) in
+    thr_to G P' (ap (λ (j : ℕ). erase_pages G (up_from G.pages j) (st_beside l' c (n + G.pages))) z)

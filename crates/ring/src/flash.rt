@@ -1,8 +1,9 @@
 // The flash of a call: the image lent, whose every change is made here, in words of the two primitives.
 ghost use Rattle.std.specs.Prelude.{◌≡◌, ◌⊎◌, ◌++◌, ◌+◌, ◌≤◌, ◌<◌, length, take, drop};
 ghost use Rattle.rules.specs.Held.{Held};
+ghost use Rattle.ring.specs.Erased.{ErasedAll};
 
-use crate::Pages;
+use crate::{Pages, base};
 use rules::Geo;
 
 // The image, its geometry and the power left.
@@ -14,10 +15,24 @@ pub struct Flash<'a> {
     pub ghost held: { Held geo (length img.now) },
 }
 
+// Erases all pages of an image, from page 0 upwards. Image and power are parameters here: in a struct each page would read
+// them anew, since the compiler can't tell its fields from the bytes that are erased.
+fn erase_each(img: &mut [u8], geo: Geo, power: &mut usize)
+    requires { Held geo (length img.old) }
+    ensures { ErasedAll geo img.old power.old img.new power.new }
+{
+    let mut left = *power;
+    for p in 0..geo.pages {
+        let at = base(geo, p, img.len());
+        words::erase(img, at, geo.page, &mut left);
+    }
+    *power = left;
+}
+
 impl Flash<'_> {
     ghost use Rattle.rules.specs.Pages.{start_at, end_at, zero_word};
     ghost use Rattle.rules.specs.Items.{size, pad, encode};
-    ghost use Rattle.ring.specs.Flash.{Programmed, Erased};
+    ghost use Rattle.ring.specs.Flash.{IsSame, Programmed, Erased};
 
     // The image as it is now.
     pub fn pages(&self) -> Pages<'_>
@@ -69,6 +84,14 @@ impl Flash<'_> {
     {
         let at = self.pages().base(p);
         words::erase(self.img, at, self.geo.page, &mut self.power);
+    }
+
+    // Erases all pages.
+    pub fn erase_all(&mut self)
+        ensures same { IsSame self.old self.new }
+        ensures erased { ErasedAll self.old.geo self.old.img.now self.old.power self.new.img.now self.new.power }
+    {
+        erase_each(self.img, self.geo, &mut self.power);
     }
 
     // Programs a new item.

@@ -33,13 +33,21 @@ fn state_of(start: bool, end: bool) -> PageState
     }
 }
 
+// Where page p of an image of this length starts: its geometry is enough, and the image need not be lent.
+pub fn base(geo: Geo, p: usize, len: usize) -> usize
+    requires { Held geo len × (p < geo.pages) }
+    ensures { (result ≡ p * geo.page) × (result + geo.page ≤ len) }
+{
+    p * geo.page
+}
+
 impl Pages<'_> {
     // Where page p starts.
     pub fn base(&self, p: usize) -> usize
         requires { p < self.now.geo.pages }
         ensures { (result ≡ p * self.now.geo.page) × (result + self.now.geo.page ≤ length self.now.img.now) }
     {
-        p * self.geo.page
+        base(self.geo, p, self.img.len())
     }
 
     // Where its data area starts.

@@ -6,8 +6,11 @@ use std::io::{ErrorKind, Read, Write};
 use std::rt::Files;
 use std::{fs, io, str};
 
-// What the system refused, and why.
+// What the system refused, and why. Where std itself had no memory for a deed, no system has a number for it.
 fn refused(deed: Deed, e: io::Error) -> Trouble {
+    if e.raw_os_error().is_none() && e.kind() == ErrorKind::OutOfMemory {
+        return Trouble::Memory;
+    }
     Trouble::System(deed, Reason::from(e))
 }
 
@@ -21,9 +24,11 @@ fn open<R: Files>(rt: &R, path: &[u8]) -> io::Result<R::File> {
     File::open(rt, text_of(path)?)
 }
 
-// The bytes of an open file, up to its end or so many.
-fn read_up_to(alloc: Global, file: impl Read + Drop, most: u64) -> io::Result<Vec<u8>> {
-    let mut bytes = Vec::new(alloc);
+// The bytes of an open file, up to its end or so many. Their room is asked for once, with one more for the read that finds
+// the end: room that grows is twice as large at last.
+fn read_up_to(alloc: Global, file: impl Read + OpenFile + Drop, most: u64) -> io::Result<Vec<u8>> {
+    let len = file.metadata().map_or(0, |data| data.len());
+    let mut bytes = Vec::with_capacity(alloc, len.saturating_add(1).min(most) as usize)?;
     file.take(most).read_to_end(&mut bytes)?;
     Ok(bytes)
 }

@@ -2,9 +2,9 @@
 ghost use Rattle.std.specs.Prelude.{◌≤◌, vec_len};
 
 use std::alloc::Global;
-use std::fmt;
 use std::fmt::Display;
 use std::io::Write;
+use std::{fmt, str};
 
 // How many bytes wait at most.
 const ROOM: usize = 65533;
@@ -90,10 +90,17 @@ impl fmt::Display for Hex<'_> {
         if self.0.is_empty() {
             return f.write_str("-");
         }
-        for byte in self.0 {
-            let [high, low] = tool::hex::show(*byte);
-            f.write_char(char::from(high))?;
-            f.write_char(char::from(low))?;
+        // 32 bytes are written together: one by one they would take twice as long
+        let mut digits = [b'0'; 64];
+        for bytes in self.0.chunks(32) {
+            for (pair, byte) in digits.as_chunks_mut::<2>().0.iter_mut().zip(bytes) {
+                *pair = tool::hex::show(*byte);
+            }
+            let text = digits
+                .get(..2 * bytes.len())
+                .and_then(|digits| str::from_utf8(digits).ok())
+                .ok_or(fmt::Error)?;
+            f.write_str(text)?;
         }
         Ok(())
     }

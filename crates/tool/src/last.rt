@@ -10,7 +10,8 @@ pub fn lasts(alloc: Global, keys: &[u32]) -> Result<Vec<bool>, AllocError>
     ensures len { IfOk result (λ v. vec_len v ≡ length keys.now) }
     ensures each { IfOk result (λ v. EachIndex keys.now (λ k. slice_index_or v.items k false ≡ is_last keys.now k)) }
 {
-    let mut later = HashSet::new(alloc);
+    // room for all at once: a set that grows has the old room beside the new
+    let mut later = HashSet::with_capacity(alloc, keys.len())?;
     let mut lasts = vec![in alloc; false; keys.len()]?;
     for i in (0..keys.len()).rev() {
         lasts[i] = later.insert(keys[i])?;

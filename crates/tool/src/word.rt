@@ -1,8 +1,17 @@
 // The words of a typed line.
-ghost use Rattle.std.specs.Prelude.{◌≡◌, map, IfOk};
+ghost use Rattle.std.specs.Prelude.{◌≡◌, map, option_map, slice_get, IfOk};
 ghost use Rattle.tool.specs.Words.{words_of};
 
 use std::alloc::{AllocError, Global};
+
+// Word k of a line, from 0, where it has one. Nothing is collected, so it can't fail.
+pub fn word(line: &[u8], k: usize) -> Option<&[u8]>
+    ensures { option_map (λ w. w.now) result ≡ slice_get (words_of line.now) k }
+{
+    line.split(|byte| *byte <= b' ')
+        .filter(|word| !word.is_empty())
+        .nth(k)
+}
 
 // The words of a line, which bytes up to a space part.
 pub fn words(alloc: Global, line: &[u8]) -> Result<Vec<&[u8]>, AllocError>

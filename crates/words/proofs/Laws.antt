@@ -8,7 +8,7 @@ use native.Mathlib.Nat.{eq-or-lt_of_le, pow-suc, div-mul-le_self}
 use mathlib.Core.Bool.{Bool, true, false, ◌&&◌}
 use mathlib.Core.List.{List, [], ◌∷◌}
 use lib.ListN.{length, get_or, set, take, drop, replicate, length-drop, length-replicate, take-append-drop}
-use lib.ListN.{drop_of_length-le}
+use lib.ListN.{drop_of_length-le, length-set}
 use lib.Seq.{drop-cons, drop-drop, length-take-le, take_all}
 use lib.Bits.{bit_and}
 use lib.Count.{ones, ones_step, ones_cat}
@@ -232,6 +232,24 @@ program_step l b a i h k =
 
 pub program_end : (l b : List ℕ) (a i : ℕ) → length b ≤ i → program l (a + i) (drop i b) ≡ l
 program_end l b a i h = rw (drop_of_length-le b h) (program-nil l (a + i))
+
+-- one byte of b programmed at its place
+abbrev put : List ℕ → List ℕ → ℕ → ℕ → List ℕ
+put l b a i = set l (a + i) (bit_and (get_or l (a + i) 0) (get_or b i 0))
+
+-- four bytes, one after the other
+pub program_four : (l b : List ℕ) (a : ℕ) → length b ≡ 4 → a + 4 ≤ length l
+    → put (put (put (put l b a 0) b a 1) b a 2) b a 3 ≡ program l (a + 0) b
+program_four l b a h k =
+    let l1 = put l b a 0 in
+    let l2 = put l1 b a 1 in
+    let l3 = put l2 b a 2 in
+    let n1 : length l1 ≡ length l = length-set l (a + 0) _ in
+    let n2 : length l2 ≡ length l = length-set l1 (a + 1) _ ∙ n1 in
+    let n3 : length l3 ≡ length l = length-set l2 (a + 2) _ ∙ n2 in
+    sym (program_step l b a 0 (omega arith) (omega arith) ∙ program_step l1 b a 1 (omega arith) (omega arith)
+    ∙ program_step l2 b a 2 (omega arith) (omega arith) ∙ program_step l3 b a 3 (omega arith) (omega arith)
+    ∙ program_end (put l3 b a 3) b a 4 (omega arith))
 
 -- a part of the image is filled
 filled : (l new : List ℕ) (a n : ℕ) → a + n ≤ length l

@@ -65,14 +65,15 @@ pub fn zeros(s: &[u8]) -> u32
     in_eights + in_fours + in_bytes
 }
 
-// x rounded up to a multiple of a word. The usual word of four bytes needs no division.
-#[tactic(auto, using(crate::proofs::Laws::multiple_is))]
+// x rounded up to a multiple of a word. The usual word of four bytes needs no division, and no remainder and test either:
+// each step of a scan waits for this sum.
+#[tactic(auto, using(crate::proofs::Laws::multiple_is), unfolding(rules::specs::Bytes::round_up))]
 pub fn round_up(w: usize, x: usize) -> usize
     requires { (4 ≤ w) × (w ≤ 8) × (x < 2 ^ 63) }
     ensures { (result ≡ round_up w x) × (x ≤ result) × (result < x + w) }
 {
     if w == 4 {
-        x.next_multiple_of(4)
+        (x + 3) / 4 * 4
     } else {
         x.next_multiple_of(w)
     }
@@ -87,14 +88,22 @@ pub fn size(w: usize, len: usize) -> usize
     8 + round_up(w, len)
 }
 
-// Programs bytes at a place: each bit becomes the AND of old and new.
+// Programs bytes at a place: each bit becomes the AND of old and new. A word of four, as each mark and removal is, takes no
+// loop: of a loop that programs zeros the compiler makes a call that fills memory.
 #[tactic(auto, using(crate::proofs::Laws::program_step, crate::proofs::Laws::program_end))]
 fn and_bytes(img: &mut [u8], at: usize, bytes: &[u8])
     requires { at + length bytes.now ≤ length img.old }
     ensures { img.new ≡ program img.old at bytes.now }
 {
-    for (i, byte) in bytes.iter().enumerate() {
-        img[at + i] &= *byte;
+    if let [a, b, c, d] = *bytes {
+        img[at] &= a;
+        img[at + 1] &= b;
+        img[at + 2] &= c;
+        img[at + 3] &= d;
+        return;
+    }
+    for i in 0..bytes.len() {
+        img[at + i] &= bytes[i];
     }
 }
 
@@ -125,6 +134,15 @@ pub fn program(img: &mut [u8], at: usize, b: &[u8], power: &mut usize)
     *power = spend(*power, allowed);
 }
 
+// Makes all bytes 0xFF. A loop, which the compiler makes one fill of memory: std's `fill` writes the last byte apart.
+fn blank(bytes: &mut [u8])
+    ensures { bytes.new ≡ replicate (length bytes.old) 255 }
+{
+    for i in 0..bytes.len() {
+        bytes[i] = 255;
+    }
+}
+
 // Erases n bytes from a place on, if there is a unit of power: they become 0xFF. All of the map's erasing is done here.
 #[tactic(auto, using(crate::proofs::Laws::erased, crate::proofs::Laws::not_begun, crate::proofs::Laws::none_left))]
 pub fn erase(img: &mut [u8], at: usize, n: usize, power: &mut usize)
@@ -133,7 +151,7 @@ pub fn erase(img: &mut [u8], at: usize, n: usize, power: &mut usize)
         × (power.new ≡ spend power.old 1) }
 {
     if 0 < *power {
-        img[at..at + n].fill(255);
+        blank(&mut img[at..at + n]);
         *power = spend(*power, 1);
     }
 }

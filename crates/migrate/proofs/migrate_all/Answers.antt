@@ -7,7 +7,7 @@ use Rattle.migrate.proofs.Laws.{all_bad, reached_item}
 use Rattle.migrate.proofs.migrate_all.Goals as goal
 
 pub loop-at-init : goal.loop-at-init
-loop-at-init c = reached_refl c.args.a c.args.e c.args.to c.args.storage.now c.requires.0
+loop-at-init c = reached_refl c.args.a c.args.e c.args.to c.args.storage.now c.requires.0 c.requires.1
 
 pub look_at-requires : goal.look_at-requires
 look_at-requires c =
@@ -46,12 +46,15 @@ migrate_one-requires c =
     let I = l.invariant in
     let n = len_same s l.storage I.keeps in
     let f = rw c.in-Item.is at c.look_at.ensures.1 in
+    let q = rw c.pages.ensures.0 at (rw c.in-Item.is at c.look_at.ensures.0) in
     rw I.keeps.same.geo (
       f.2,
+      I.lies,
+      q,
       f.0,
       omega arith,
       omega (arith, I.room, f.0),
-      ⊎_elim (λ y. inl (omega (arith, I.room, I.low, f.0, y))) (λ y. inr (omega (arith, I.grown, y))) c.requires.3,
+      ⊎_elim (λ y. inl (omega (arith, I.room, I.low, f.0, y))) (λ y. inr (omega (arith, I.grown, y))) c.requires.4,
     )
 
 pub returns-in_err-next-in-Item : goal.returns-in_err-next-in-Item
@@ -80,7 +83,7 @@ loop-at-preserved c =
     c.migrate_one.result c.migrate_one.ensures
     (run_item s.flash.now.geo (omega (arith, s.flash.now.held.low)) (st_of l.storage) l.at a.e l.next (omega arith)
     c.look_at.result c.loop-at-test.true q c.in-Item.len c.in-Item.is)
-    c.in_ok-next-in-Item.next c.in_ok-next-in-Item.was f.0 c.requires.3)
+    c.in_ok-next-in-Item.next c.in_ok-next-in-Item.was f.0 c.requires.4)
 
 pub returns : goal.returns
 returns c =
