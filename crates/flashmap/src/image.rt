@@ -158,8 +158,8 @@ pub struct Versions<'a> {
 }
 
 impl Versions<'_> {
-    /// How many items it has at most: each takes twelve bytes, and more with a value.
-    pub fn most(&self) -> usize {
+    /// Room for all items: each takes twelve bytes, and more with a value.
+    pub fn room(&self) -> usize {
         self.bytes.len() / 12
     }
 }

@@ -36,8 +36,8 @@ pub fn walk<W: Write + Drop>(image: &mut Image<'_>, out: &mut Sheet<W>) -> Resul
 }
 
 // The keys of a walk, in room that need not grow.
-fn keys_of(alloc: Global, versions: Versions<'_>) -> Result<Vec<u32>, AllocError> {
-    let mut keys = Vec::with_capacity(alloc, versions.most())?;
+fn collect_keys(alloc: Global, versions: Versions<'_>) -> Result<Vec<u32>, AllocError> {
+    let mut keys = Vec::with_capacity(alloc, versions.room())?;
     for version in versions {
         keys.push(version.key)?;
     }
@@ -53,7 +53,7 @@ pub fn list<W: Write + Drop>(
     let start = image.start()?;
     let versions = image.versions(start);
     let sound = image.is_sound();
-    let keys = keys_of(alloc, versions)?;
+    let keys = collect_keys(alloc, versions)?;
     let lasts = last::lasts(alloc, &keys)?;
     out.put_line("       key  bytes  value");
     for (version, last) in versions.zip(lasts) {
